@@ -10,7 +10,6 @@ choose true a b = a
 choose false a b = b
 
 infixl 1 _>>=_
-
 -- what f makes of an answer, if there is one (antt's `do` is written with it)
 abbrev pub _>>=_ : {A B : Type 0} → Option A → (A → Option B) → Option B
 none >>= f = none
