@@ -1,0 +1,2 @@
+// Canonical S-expressions (RFC 9804) in bytes: `decimal` reads a length.
+mod decimal;
