@@ -1,7 +1,7 @@
 -- Choices that every definition makes: by a test, and by whether there is an answer. Each has the law that takes it apart again.
 use Prim.Native.Nat.{ℕ}
 use mathlib.Core.Path.{_≡_, refl, sym}
-use mathlib.Core.Bool.{Bool, true, false, false≢true}
+use mathlib.Core.Bool.{Bool, true, false, _&&_, false≢true}
 use mathlib.Core.Option.{Option, none, some, Option·none-ne-some}
 
 -- the first where the test holds, else the second
@@ -29,6 +29,14 @@ orElse (some a) o = some a
 abbrev pub maybe : {A B : Type 0} → Option A → B → (A → B) → B
 maybe none b f = b
 maybe (some a) b f = f a
+
+-- no answer is not an answer
+pub nope : {A : Type 0} {P : Type 0} {a : A} → Path (Option A) none (some a) → P
+nope {a = a} e = absurd (Option·none-ne-some a e)
+
+pub both-true : (a b : Bool) → a && b ≡ true → (a ≡ true) × (b ≡ true)
+both-true true b e = (refl, e)
+both-true false b e = absurd (false≢true e)
 
 pub bind-some : {A B : Type 0} (o : Option A) (f : A → Option B) (b : B) → (o >>= f) ≡ some b → (a : A) × (o ≡ some a) × (f a ≡ some b)
 bind-some none f b e = absurd (Option·none-ne-some b e)

@@ -1,0 +1,4 @@
+pub mod SameLaws
+pub mod ViewLaws
+pub mod ListLaws
+pub mod PlaceLaws
