@@ -1,0 +1,10 @@
+//! The second program: the answers of documents 01 and 02, written from those documents alone and in the plainest way,
+//! to be compared with the desk's own. See README.md.
+
+pub mod answers;
+pub mod batch;
+pub mod carrier;
+pub mod chance;
+pub mod examples;
+pub mod expression;
+pub mod make;
