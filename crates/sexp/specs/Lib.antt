@@ -1,3 +1,4 @@
 pub mod Decimal
 pub mod Number
 pub mod Sexp
+pub mod Words

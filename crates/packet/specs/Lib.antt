@@ -1,0 +1,4 @@
+pub mod Written
+pub mod Table
+pub mod Wrong
+pub mod Barred
