@@ -50,5 +50,11 @@ abbrev mutual
   nestings (cons x xs) = max (nesting x) (nestings xs)
 
 -- the bytes of s from an offset on begin with an expression
-abbrev pub Stands : List ℕ → ℕ → Sexp → Type 0
-Stands s at e = (rest : List ℕ) × (drop at s ≡ spellOnto e rest)
+pub record Stands (s : List ℕ) (at : ℕ) (e : Sexp) : Type 0 where
+  pub rest : List ℕ
+  pub spelt : drop at s ≡ spellOnto e rest
+
+-- and with the members of a list and its closing parenthesis
+pub record StandsAll (s : List ℕ) (at : ℕ) (xs : Sexps) : Type 0 where
+  pub rest : List ℕ
+  pub spelt : drop at s ≡ spellsOnto xs (41 ∷ rest)
