@@ -2,3 +2,4 @@ pub mod Written
 pub mod Table
 pub mod Wrong
 pub mod Barred
+pub mod Offset
