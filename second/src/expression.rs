@@ -75,3 +75,18 @@ impl Expression {
         panic!("no such part")
     }
 }
+
+/// Canonical bytes from words and parentheses with spaces between: `(use 0 (l))` is `(3:use1:0(1:l))`. The word `~` is
+/// the string of no octets.
+pub fn plain(words: &str) -> Vec<u8> {
+    let mut out = Vec::new();
+    let spaced = words.replace('(', " ( ").replace(')', " ) ");
+    for word in spaced.split_whitespace() {
+        match word {
+            "(" | ")" => out.extend_from_slice(word.as_bytes()),
+            "~" => crate::batch::put(&mut out, b""),
+            _ => crate::batch::put(&mut out, word.as_bytes()),
+        }
+    }
+    out
+}

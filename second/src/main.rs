@@ -24,8 +24,17 @@ fn run(words: &[String]) -> Result<Vec<u8>, String> {
         "carrier-cases" => Ok(make::carrier::cases()),
         "carrier-answers" => answers::carrier(&input()?).map(lines),
         "carrier-counts" => counts(answers::carrier_counts(&answers::carrier(&input()?)?)),
+        "packet-cases" => Ok(make::packets::cases(part(words, make::packets::PARTS)?)),
+        "packet-answers" => answers::packets(&input()?).map(lines),
+        "packet-counts" => counts(answers::packet_counts(&answers::packets(&input()?)?)),
         _ => Err("which of the subcommands in README.md?".to_string()),
     }
+}
+
+/// Which of the case files is asked for: a number from 1 to `parts`.
+fn part(words: &[String], parts: usize) -> Result<usize, String> {
+    let number = words.get(1).and_then(|word| word.parse().ok());
+    number.filter(|number| (1..=parts).contains(number)).ok_or(format!("which part, from 1 to {parts}?"))
 }
 
 fn input() -> Result<Vec<u8>, String> {
