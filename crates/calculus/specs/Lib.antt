@@ -1,0 +1,9 @@
+pub mod Formula
+pub mod Substitution
+pub mod Multiset
+pub mod Signature
+pub mod Derivation
+pub mod Uniform
+pub mod Translation
+pub mod Classes
+pub mod Packet
