@@ -6,7 +6,7 @@ use mathlib.Core.Bool.{Bool, true, false, _&&_, false≢true}
 use mathlib.Core.List.{List, [], _∷_}
 use native.Mathlib.Omega.{arith}
 use lib.Dec.{ltb, leb}
-use lib.ListN.{length}
+use lib.ListN.{length, getD, drop}
 use borrow.Author.Tests.{ltb-true, ltb-false, lt-ltb, le-ltb, le-leb, leb-true}
 use Rattle.sexp.specs.Decimal.{digitsOnto, decimalOnto, isDigit}
 
@@ -134,3 +134,19 @@ pub decimal-once : (n m : ℕ) (k l : List ℕ) → NoDigit k → NoDigit l → 
 decimal-once n m k l h h′ e =
     let f = sym (value-over n k h) ∙ sym (value-onto n k) ∙ ap (valueFrom 0) e ∙ value-onto m l ∙ value-over m l h′ in
     (ap (λ (p : ℕ × List ℕ). p .0) f, ap (λ (p : ℕ × List ℕ). p .1) f)
+
+-- a number that begins with 0 is 0: there is no leading zero
+abbrev ZeroFirst : ℕ → Type 0
+ZeroFirst n = (k r : List ℕ) → decimalOnto n k ≡ 48 ∷ r → (n ≡ 0) × (k ≡ r)
+
+pub no-leading-zero : (n : ℕ) → ZeroFirst n
+no-leading-zero = by-digits ZeroFirst one more
+  where
+    one : (n : ℕ) → n < 10 → ZeroFirst n
+    one n h k r e =
+        let f = sym (onto-small n k h) ∙ e in
+        let g = ap (λ (w : List ℕ). getD w 0 0) f in
+        (omega arith, ap (drop 1) f)
+
+    more : (v d : ℕ) → 0 < v → d < 10 → ZeroFirst v → ZeroFirst (v * 10 + d)
+    more v d h h′ ih k r e = let z = ih ((48 + d) ∷ k) r (sym (onto-step v d k h h′) ∙ e) .0 in absurd (omega arith)

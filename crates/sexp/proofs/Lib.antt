@@ -1,5 +1,9 @@
 pub mod DecimalLaws
 pub mod NumberLaws
-pub mod OntoLaws
 pub mod SpellLaws
+pub mod OntoLaws
 pub mod StandLaws
+pub mod ScanLaws
+pub mod Spelt
+pub mod TextLaws
+pub mod CarrierLaws
