@@ -2,3 +2,8 @@ pub mod SameLaws
 pub mod ViewLaws
 pub mod ListLaws
 pub mod PlaceLaws
+pub mod NumberLaws
+pub mod PositionLaws
+pub mod FitsLaws
+pub mod CheckLaws
+pub mod Judgement

@@ -12,7 +12,7 @@ use Rattle.harrop.specs.declared.Binding.{Binding}
 use Rattle.harrop.specs.declared.Binding.the-variants.{Candidate, Parameter}
 use Rattle.harrop.specs.Formula.{Term, Atom, Goal, Clause, Step}
 use Rattle.harrop.specs.Bindings.{Bindings, highest}
-use Rattle.harrop.specs.Place.{Candidates, End, ends, allowed, follow}
+use Rattle.harrop.specs.Place.{Candidates, AtHand, Hand, End, ends, allowed, follow}
 use Rattle.harrop.specs.Proves.{May, Reaches, at-atom, at-imp, by-number, by-l, by-r}
 use Rattle.harrop.proofs.ListLaws.{member-below}
 
@@ -61,3 +61,7 @@ module _ {Q : Type 0} (cs : Candidates Q) where
   -- a path reaches one end only
   pub reaches-one : {o : List Q} {d : Clause Q} {bs : Bindings} {path : List Step} {x y : End Q} → Reaches cs o d bs path x → Reaches cs o d bs path y → x ≡ y
   reaches-one {o} {d} {bs} {path} {x} {y} t u = Option·some-injective x y (sym (reaches-follow o d bs path x t) ∙ reaches-follow o d bs path y u)
+
+  -- so do two paths into the same clause at hand
+  pub same-end : {o : List Q} (c : Hand Q) (k : ℕ) {path : List Step} {d d₁ : AtHand Q} {x y : End Q} → getElem? c k ≡ some d → Reaches cs o (d .clause) (d .bindings) path x → getElem? c k ≡ some d₁ → Reaches cs o (d₁ .clause) (d₁ .bindings) path y → x ≡ y
+  same-end {o} c k {path} {d} {d₁} {x} {y} e r f t = reaches-one r (subst (λ (z : AtHand Q). Reaches cs o (z .clause) (z .bindings) path y) (Option·some-injective d₁ d (sym f ∙ e)) t)

@@ -11,10 +11,8 @@ use Rattle.harrop.specs.declared.Binding.the-variants.{Candidate, Parame
 use Rattle.harrop.specs.Formula.{Term, Atom, Goal, Clause, Step, Strip}
 use Rattle.harrop.specs.Bindings.{Bindings, replacedAtom, sameAtom}
 use Rattle.harrop.specs.Place.{Candidates, AtHand, Hand, Place, End, allowed, follow}
+pub use Rattle.harrop.specs.Position.{Position}
 use Rattle.harrop.specs.Views.{asTop, asAtom, asAnd, asOr, asSome, asAll, asImp}
-
-abbrev pub Position : Type 0
-Position = List ℕ
 
 pub data Judged : Type 0 where
   fits : ℕ → ℕ → Judged  -- every node fits: height and nodes

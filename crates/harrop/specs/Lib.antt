@@ -3,5 +3,9 @@ pub mod Bindings
 pub mod Place
 pub mod Proves
 pub mod Views
+pub mod Position
+pub mod Fits
 pub mod Check
 pub mod Search
+pub mod Order
+pub mod First

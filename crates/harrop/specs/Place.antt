@@ -32,6 +32,9 @@ pub record Place (Q : Type 0) : Type 0 where
   pub hand : Hand Q
   pub opened : List Q
 
+abbrev pub place : {Q : Type 0} → List Q → Hand Q → Bindings → Goal Q → Place Q
+place o c bs g = record { goal = g; bindings = bs; hand = c; opened = o }
+
 -- what a path reaches: an atom, or G implies an atom, with its variables as the path set them
 pub data End (Q : Type 0) : Type 0 where
   atAtom : Atom → Bindings → End Q
