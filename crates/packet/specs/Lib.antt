@@ -3,3 +3,4 @@ pub mod Table
 pub mod Wrong
 pub mod Barred
 pub mod Offset
+pub mod Read

@@ -7,3 +7,4 @@ pub mod ScanLaws
 pub mod Spelt
 pub mod TextLaws
 pub mod CarrierLaws
+pub mod WordLaws
