@@ -7,3 +7,4 @@ pub mod Uniform
 pub mod Translation
 pub mod Classes
 pub mod Packet
+pub mod Values
