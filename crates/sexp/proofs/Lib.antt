@@ -8,3 +8,6 @@ pub mod Spelt
 pub mod TextLaws
 pub mod CarrierLaws
 pub mod WordLaws
+pub mod Told
+pub mod Deeper
+pub mod Meant

@@ -2,6 +2,8 @@ pub mod Decimal
 pub mod Number
 pub mod Sexp
 pub mod Known
+pub mod Place
 pub mod Scan
+pub mod Meaning
 pub mod Text
 pub mod Words
