@@ -237,4 +237,3 @@ module _ (hints : Bool) (limit : ℕ) where
       go : (s : Option State) → elim s as (λ x. Carrier) [ none ↦ Fault at | some p ↦ scan hints limit p (at + 1) (note limit q c at v) w ] ≡ Fault o → ((p : State) → scan hints limit p (at + 1) (note limit q c at v) w ≡ Fault o → scan hints limit p (at + 1) (note limit q c at v) (take m w ++ x) ≡ Fault o) → elim s as (λ x. Carrier) [ none ↦ Fault at | some p ↦ scan hints limit p (at + 1) (note limit q c at v) (take m w ++ x) ] ≡ Fault o
       go none e ih = e
       go (some p) e ih = ih p e
-
