@@ -4,3 +4,4 @@ pub mod Wrong
 pub mod Barred
 pub mod Offset
 pub mod Read
+pub mod Rows

@@ -1,4 +1,11 @@
 // The table of words and the four files read (document 01, "The carrier and the words", "Sizes", "What comes back").
+mod table;
+
+pub use table::Follows;
+pub use table::Row;
+pub use table::due_after;
+pub use table::may_end;
+pub use table::next_due;
 
 // The words of the table, and what is none of them.
 pub enum Word {
