@@ -11,3 +11,5 @@ pub mod WordLaws
 pub mod Told
 pub mod Deeper
 pub mod Meant
+pub mod ReadLaws
+pub mod Examples

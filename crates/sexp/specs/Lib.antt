@@ -7,3 +7,4 @@ pub mod Scan
 pub mod Meaning
 pub mod Text
 pub mod Words
+pub mod Read
