@@ -7,3 +7,6 @@ pub mod PositionLaws
 pub mod FitsLaws
 pub mod CheckLaws
 pub mod Judgement
+pub mod OrderLaws
+pub mod HeightLaws
+pub mod FirstLaws
