@@ -1,12 +1,14 @@
+pub mod AnswerLaws
+pub mod CarrierLaws
 pub mod DecimalLaws
 pub mod NumberLaws
-pub mod SpellLaws
 pub mod OntoLaws
-pub mod StandLaws
 pub mod ScanLaws
+pub mod SkipLaws
+pub mod SpellLaws
 pub mod Spelt
+pub mod StandLaws
 pub mod TextLaws
-pub mod CarrierLaws
 pub mod WordLaws
 pub mod Told
 pub mod Deeper

@@ -8,12 +8,12 @@ use mathlib.Core.List.{List, [], _∷_, _++_}
 use native.Mathlib.Omega.{arith}
 use lib.Dec.{ltb}
 use lib.ListN.{length, getD, drop, length-drop, List·getD-eq-default}
-use lib.Seq.{drop-drop, drop-length, getD-drop}
+use lib.Seq.{drop-drop, getD-drop}
 use borrow.Author.Tests.{ltb-true, ltb-false}
 use Rattle.sexp.specs.Sexp.{Sexp, Sexps, str, hinted, list, nil, cons, spellOnto, spellsOnto, spell, spells, nesting, Stands, StandsAll}
 use Rattle.sexp.proofs.DecimalLaws.{onto-first}
 use Rattle.sexp.proofs.NumberLaws.{drop-here}
-use Rattle.sexp.proofs.SpellLaws.{spell-once, spells-once, spell-length, spells-length, spell-first}
+use Rattle.sexp.proofs.SpellLaws.{spell-once, spells-once, spell-length, spells-length, spell-first, verbatim-once}
 use Rattle.sexp.proofs.OntoLaws.{spell-past, spells-past, spell-some}
 
 -- the byte at an offset, and the bytes after it, where the bytes from there on are known
@@ -31,6 +31,9 @@ byte-inside s at c e h = go (ltb at (length s)) refl
     go : (b : Bool) → ltb at (length s) ≡ b → at < length s
     go true t = ltb-true at (length s) t
     go false t = absurd (omega (arith, e, List·getD-eq-default s 0 (ltb-false at (length s) t)))
+
+pub byte-then : (s : List ℕ) (at c : ℕ) → getD s at 0 ≡ c → 0 < c → drop at s ≡ c ∷ drop (at + 1) s
+byte-then s at c e h = drop-here s at (byte-inside s at c e h) ∙ ap (λ (x : ℕ). x ∷ drop (at + 1) s) e
 
 module _ {s : List ℕ} {at : ℕ} where
   -- an expression ends inside the bytes
@@ -54,6 +57,9 @@ module _ {s : List ℕ} {at : ℕ} where
   pub all-once : {xs ys : Sexps} → StandsAll s at xs → StandsAll s at ys → xs ≡ ys
   all-once {xs} {ys} h g = spells-once xs ys (h .rest) (g .rest) (sym (h .spelt) ∙ g .spelt) .0
 
+  pub string-once : {w v : List ℕ} → Stands s at (str w) → Stands s at (str v) → w ≡ v
+  string-once {w} {v} h g = verbatim-once w v (h .rest) (g .rest) (sym (h .spelt) ∙ g .spelt) .0
+
   -- a list opens, and its members stand after that
   pub list-opens : {xs : Sexps} → Stands s at (list xs) → getD s at 0 ≡ 40
   list-opens {xs} h = byte-at s at (spellOnto (list xs) (h .rest)) (h .spelt)
@@ -74,13 +80,10 @@ module _ {s : List ℕ} {at : ℕ} where
 
   -- and back
   pub list-stands : {xs : Sexps} → getD s at 0 ≡ 40 → StandsAll s (at + 1) xs → Stands s at (list xs)
-  list-stands {xs} b h = record {
-    rest = h .rest;
-    spelt = drop-here s at (byte-inside s at 40 b (omega arith)) ∙ ap (λ (c : ℕ). c ∷ drop (at + 1) s) b ∙ ap (λ (w : List ℕ). 40 ∷ w) (h .spelt);
-  }
+  list-stands {xs} b h = record { rest = h .rest; spelt = byte-then s at 40 b (omega arith) ∙ ap (λ (w : List ℕ). 40 ∷ w) (h .spelt) }
 
   pub none-stand : getD s at 0 ≡ 41 → StandsAll s at nil
-  none-stand b = record { rest = drop (at + 1) s; spelt = drop-here s at (byte-inside s at 41 b (omega arith)) ∙ ap (λ (c : ℕ). c ∷ drop (at + 1) s) b }
+  none-stand b = record { rest = drop (at + 1) s; spelt = byte-then s at 41 b (omega arith) }
 
   pub more-stand : {x : Sexp} {xs : Sexps} → Stands s at x → StandsAll s (at + length (spell x)) xs → StandsAll s at (cons x xs)
   more-stand {x} {xs} h g = record { rest = g .rest; spelt = h .spelt ∙ ap (spellOnto x) (sym (stands-past h) ∙ g .spelt) }

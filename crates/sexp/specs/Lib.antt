@@ -6,5 +6,7 @@ pub mod Place
 pub mod Scan
 pub mod Meaning
 pub mod Text
+pub mod Strings
+pub mod Past
 pub mod Words
 pub mod Read

@@ -1,0 +1,149 @@
+-- Going past an expression: a string, a hinted string, or a list whose members are passed one after the other.
+-- From document 01, "comparing and skipping nested terms in bytes, remaining nesting falls".
+use Prim.Native.Nat.{ℕ, _+_, _-_, _<_, _≤_, max}
+use mathlib.Core.Path.{_≡_, refl, sym, _∙_, ap, ap₂, subst}
+use mathlib.Core.Bool.{true}
+use mathlib.Core.List.{List, [], _∷_, _++_}
+use mathlib.Core.Option.{Option, none, some}
+use native.Mathlib.Omega.{arith}
+use lib.ListN.{length, getD, take, drop, length-drop}
+use lib.Seq.{take-append-seam}
+use Rattle.sexp.specs.declared.skip.After.{After}
+use Rattle.sexp.specs.declared.skip.After.the-variants.{Next, Nothing}
+use Rattle.sexp.specs.declared.text.Reading.{Reading}
+use Rattle.sexp.specs.declared.text.Reading.the-variants.{Spans, Stuck}
+use Rattle.sexp.specs.Sexp.{Sexp, Sexps, str, hinted, list, nil, cons, spellOnto, spell, spells, nesting, nestings, Stands, StandsAll}
+use Rattle.sexp.specs.Known.{Known, textOf}
+use Rattle.sexp.specs.Text.{Span, VerbatimAt, TextAt}
+use Rattle.sexp.specs.Strings.{Plain}
+use Rattle.sexp.specs.Past.{Ends, PastAt}
+use Rattle.sexp.proofs.SpellLaws.{spell-length}
+use Rattle.sexp.proofs.OntoLaws.{spell-some}
+use Rattle.sexp.proofs.StandLaws.{byte-inside, none-closes, stands-inside, stands-once, list-opens, members-stand, first-stands, others-stand, list-stands, none-stand, more-stand, opens-list, opens-not, list-length, cons-length}
+
+-- a plain string that is read, and one that is not
+pub plain-spans : (s : List ℕ) (at from to : ℕ) (r : Reading) → r ≡ Spans from to → VerbatimAt s at r → Plain s at from (to - from)
+plain-spans s at from to r q h = spans (subst (λ (x : Reading). VerbatimAt s at x) q h)
+  where
+    spans : VerbatimAt s at (Spans from to) → Plain s at from (to - from)
+    spans (a, (bs, e, w)) =
+        let n : to - from ≡ length bs = omega (arith, w .long) in
+        let l = sym (length-drop at s) ∙ ap length e ∙ spell-length (str bs) (drop to s) in
+        record {
+          octets = bs;
+          stands = record { rest = drop to s; spelt = e };
+          lies = sym (ap₂ take n (w .lies) ∙ take-append-seam bs (drop to s));
+          count = sym n;
+          ends = omega (arith, a, l, w .long, w .inside, length-drop to s);
+        }
+
+pub plain-order : (s : List ℕ) (at from to : ℕ) (r : Reading) → r ≡ Spans from to → VerbatimAt s at r → from ≤ to
+plain-order s at from to r q h = let z = subst (λ (x : Reading). VerbatimAt s at x) q h .1 .2 .long in omega arith
+
+pub plain-stuck : (s : List ℕ) (at o : ℕ) (r : Reading) → r ≡ Stuck o → VerbatimAt s at r → (w : List ℕ) → Stands s at (str w) → ⊥
+plain-stuck s at o r q h w g = subst (λ (x : Reading). VerbatimAt s at x) q h .0 w (g .rest) (g .spelt)
+
+-- the same of a string with a hint or without
+flat : (h : Option (List ℕ)) (bs : List ℕ) → nesting (textOf h bs) ≡ 0
+flat none bs = refl
+flat (some h) bs = refl
+
+pub past-spans : (s : List ℕ) (at from to : ℕ) (r : Reading) → r ≡ Spans from to → TextAt true s at r → Ends s at 0 to
+past-spans s at from to r q h = spans (subst (λ (x : Reading). TextAt true s at x) q h)
+  where
+    spans : TextAt true s at (Spans from to) → Ends s at 0 to
+    spans (a, (h, bs, k, e, w)) =
+        let l = sym (length-drop at s) ∙ ap length e ∙ spell-length (textOf h bs) (drop to s) in
+        record {
+          expression = textOf h bs;
+          stands = record { rest = drop to s; spelt = e };
+          shallow = omega (arith, flat h bs);
+          ends = omega (arith, a, l, w .long, w .inside, length-drop to s);
+        }
+
+pub past-stuck : (s : List ℕ) (at o : ℕ) (r : Reading) → r ≡ Stuck o → TextAt true s at r → (e : Sexp) → Stands s at e → nesting e ≤ 0 → ⊥
+past-stuck s at o r q h = stuck (subst (λ (x : Reading). TextAt true s at x) q h .0)
+  where
+    stuck : ((h : Option (List ℕ)) (bs rest : List ℕ) → Known true (textOf h bs) → drop at s ≡ spellOnto (textOf h bs) rest → ⊥) → (e : Sexp) → Stands s at e → nesting e ≤ 0 → ⊥
+    stuck n (str w) g d = n none w (g .rest) tt (g .spelt)
+    stuck n (hinted t w) g d = n (some t) w (g .rest) refl (g .spelt)
+    stuck n (list xs) g d = omega arith
+
+-- past an expression that opens no list it does not matter how deep lists may nest; and where one opens, it must be allowed
+pub past-flat : (s : List ℕ) (at nest : ℕ) (r : After) → (getD s at 0 ≡ 40 → ⊥) → PastAt s at 0 r → PastAt s at nest r
+past-flat s at nest (Next n) b h = record { expression = h .expression; stands = h .stands; shallow = omega (arith, h .shallow); ends = h .ends }
+past-flat s at nest Nothing b h = λ e g d. h e g (omega (arith, opens-not g b))
+
+pub past-deep : (s : List ℕ) (at nest : ℕ) → getD s at 0 ≡ 40 → nest ≡ 0 → PastAt s at nest Nothing
+past-deep s at nest b z = none
+  where
+    none : (e : Sexp) → Stands s at e → nesting e ≤ nest → ⊥
+    none e g d = let (xs, q) = opens-list g b in omega (arith, z, d, ap nesting q)
+
+-- members of a list stand from an offset up to n, and nest at most so deep
+pub record Members (s : List ℕ) (at nest n : ℕ) : Type 0 where
+  pub members : Sexps
+  pub stand : StandsAll s at members
+  pub shallow : nestings members ≤ nest
+  pub ends : n ≡ at + length (spells members)
+
+-- of the list that opens at an offset, members are passed up to i: any that stand there make a whole, and any whole leaves some to stand there
+pub record Going (s : List ℕ) (at nest i : ℕ) : Type 0 where
+  pub inside : i ≤ length s
+  pub whole : (ys : Sexps) → StandsAll s i ys → nestings ys ≤ nest → Members s (at + 1) nest (i + length (spells ys))
+  pub left : (xs : Sexps) → StandsAll s (at + 1) xs → nestings xs ≤ nest → (ys : Sexps) × StandsAll s i ys × (nestings ys ≤ nest)
+
+pub going-start : (s : List ℕ) (at nest : ℕ) → getD s at 0 ≡ 40 → Going s at nest (at + 1)
+going-start s at nest b = record {
+  inside = omega (arith, byte-inside s at 40 b (omega arith));
+  whole = λ ys h d. record { members = ys; stand = h; shallow = d; ends = refl };
+  left = λ xs h d. (xs, h, d);
+}
+
+module _ (s : List ℕ) (at nest i : ℕ) (g : Going s at nest i) where
+  -- a member is passed
+  pub going-on : (n : ℕ) → (getD s i 0 ≡ 41 → ⊥) → Ends s i nest n → Going s at nest n
+  going-on n b h = record {
+    inside = omega (arith, h .ends, stands-inside (h .stands));
+    whole = λ ys k d. more ys (subst (λ (j : ℕ). StandsAll s j ys) (h .ends) k) d;
+    left = λ xs k d. rest (g .left xs k d);
+  }
+    where
+      x : Sexp
+      x = h .expression
+
+      more : (ys : Sexps) → StandsAll s (i + length (spell x)) ys → nestings ys ≤ nest → Members s (at + 1) nest (n + length (spells ys))
+      more ys k d =
+          let m = g .whole (cons x ys) (more-stand (h .stands) k) (omega (arith, h .shallow, d)) in
+          record { members = m .members; stand = m .stand; shallow = m .shallow; ends = omega (arith, m .ends, h .ends, cons-length x ys) }
+
+      rest : (ys : Sexps) × StandsAll s i ys × (nestings ys ≤ nest) → (zs : Sexps) × StandsAll s n zs × (nestings zs ≤ nest)
+      rest (nil, k, d) = absurd (b (none-closes k))
+      rest (cons y zs, k, d) =
+          let e = ap (λ (z : Sexp). i + length (spell z)) (stands-once (first-stands k) (h .stands)) ∙ sym (h .ends) in
+          (zs, subst (λ (j : ℕ). StandsAll s j zs) e (others-stand k), omega (arith, d))
+
+  pub going-further : (n : ℕ) → Ends s i nest n → i < n
+  going-further n h = omega (arith, h .ends, spell-some (h .expression))
+
+module _ (s : List ℕ) (at nest i : ℕ) (b : getD s at 0 ≡ 40) (z : nest ≡ 0 → ⊥) (g : Going s at (nest - 1) i) where
+  -- the closing parenthesis ends the list
+  pub past-list : getD s i 0 ≡ 41 → Ends s at nest (i + 1)
+  past-list c =
+      let m = g .whole nil (none-stand c) (omega arith) in
+      record {
+        expression = list (m .members);
+        stands = list-stands b (m .stand);
+        shallow = omega (arith, z, m .shallow);
+        ends = omega (arith, m .ends, list-length (m .members));
+      }
+
+  -- where none closes and no member stands, there is no list
+  pub past-stop : (getD s i 0 ≡ 41 → ⊥) → ((e : Sexp) → Stands s i e → nesting e ≤ nest - 1 → ⊥) → (e : Sexp) → Stands s at e → nesting e ≤ nest → ⊥
+  past-stop c f e h d =
+      let (xs, q) = opens-list h b in
+      stop (g .left xs (members-stand (subst (Stands s at) q h)) (omega (arith, d, ap nesting q)))
+    where
+      stop : (ys : Sexps) × StandsAll s i ys × (nestings ys ≤ nest - 1) → ⊥
+      stop (nil, k, d) = c (none-closes k)
+      stop (cons y ys, k, d) = f y (first-stands k) (omega (arith, d))
