@@ -6,6 +6,7 @@ pub mod batch;
 pub mod carrier;
 pub mod chance;
 pub mod check;
+pub mod counts;
 pub mod examples;
 pub mod expression;
 pub mod formula;

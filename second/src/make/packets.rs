@@ -218,7 +218,7 @@ fn barred(out: &mut Vec<u8>) {
 
 fn by_chance(out: &mut Vec<u8>) {
     let mut chance = Chance::new(5);
-    for _ in 0..2_800 {
+    for _ in 0..2_000 {
         let mut files = sound(&mut chance);
         if files.iter().map(Vec::len).sum::<usize>() > 700 {
             continue;
