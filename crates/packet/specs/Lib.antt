@@ -5,3 +5,5 @@ pub mod Barred
 pub mod Offset
 pub mod Read
 pub mod Rows
+pub mod Numbers
+pub mod File
