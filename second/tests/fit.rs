@@ -64,6 +64,23 @@ fn equality_is_of_terms() {
     assert_eq!(on("(rules (atom p))", "(atom p (f a))", "(terms)", "(use 0 ())"), "misfit 0");
 }
 
+/// 60 lists in the formula and 63 in the candidate.
+#[test]
+fn terms_nested_123_deep() {
+    let nest = |times: usize, inside: &str| "(f g ".repeat(times) + inside + &")".repeat(times);
+    let rules = format!("(rules (all (atom p {})))", nest(60, "(v 0)"));
+    let terms = format!("(terms {} {} {})", nest(62, "(f a)"), nest(61, "(f a)"), nest(62, "(f b)"));
+    let fits = |more, n: usize, m: usize| {
+        on(&rules, &format!("(some (atom p {}))", nest(more, "(v 0)")), &terms, &format!("(some {n} (use 0 ({m})))"))
+    };
+    assert_eq!(fits(60, 0, 0), "accepted 2 2");
+    assert_eq!(fits(60, 0, 1), "misfit 10");
+    assert_eq!(fits(60, 0, 2), "misfit 10");
+    assert_eq!(fits(61, 1, 0), "accepted 2 2");
+    assert_eq!(fits(61, 1, 2), "misfit 10");
+    assert_eq!(fits(59, 0, 1), "accepted 2 2");
+}
+
 #[test]
 fn the_first_and_not_the_shortest() {
     let rules = "(rules (imp (top) (atom p)) (atom p))";
