@@ -10,3 +10,7 @@ pub mod Judgement
 pub mod OrderLaws
 pub mod HeightLaws
 pub mod FirstLaws
+pub mod SearchLaws
+pub mod SilentLaws
+pub mod FoundLaws
+pub mod Finding
