@@ -1,3 +1,10 @@
 pub mod Sound
 pub mod Underivable
 pub mod ClassLaws
+pub mod SubstitutionLaws
+pub mod SortLaws
+pub mod OrderLaws
+pub mod Derive
+pub mod DeriveUniform
+pub mod PacketLaws
+pub mod RootDerived

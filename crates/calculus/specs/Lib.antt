@@ -6,5 +6,6 @@ pub mod Derivation
 pub mod Uniform
 pub mod Translation
 pub mod Classes
+pub mod Apt
 pub mod Packet
 pub mod Values

@@ -55,11 +55,12 @@ ofEach h (x ∷ xs) = h x ++ ofEach h xs
 abbrev pub formulasOf : {Q : Type 0} → List (Clause Q) → Goal Q → List (Formula Q)
 formulasOf ds g = goalFormula g ∷ map clauseFormula ds
 
+-- of one sort: these functions and these predicates
+abbrev pub plain : List Symbol → List Symbol → Symbols Plain
+plain fs ps = record { function = λ f ss s. List·Memᴰ (f, length ss) fs; predicate = λ p ss. List·Memᴰ (p, length ss) ps }
+
 abbrev pub packetSymbols : List (Clause Plain) → Goal Plain → List Term → Symbols Plain
-packetSymbols ds g ts = record {
-  function = λ f ss s. List·Memᴰ (f, length ss) (ofEach functionsIn ts ++ ofEach (ofAtoms atomFunctions) (formulasOf ds g));
-  predicate = λ p ss. List·Memᴰ (p, length ss) (ofEach (ofAtoms atomPredicates) (formulasOf ds g));
-}
+packetSymbols ds g ts = plain (ofEach functionsIn ts ++ ofEach (ofAtoms atomFunctions) (formulasOf ds g)) (ofEach (ofAtoms atomPredicates) (formulasOf ds g))
 
 abbrev pub packetSignature : List (Clause Plain) → Goal Plain → List Term → Signature Plain
 packetSignature ds g ts = record { symbols = packetSymbols ds g ts; parameters = [] }

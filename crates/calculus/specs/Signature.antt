@@ -77,3 +77,6 @@ pub record Sequent (S : Type 0) : Type 1 where
   pub signature : Signature S
   pub left : List (Formula S)
   pub right : Formula S
+
+abbrev pub WellTyped : {S : Type 0} → Sequent S → Type 0
+WellTyped s = IsSequent (s .signature) (s .left) (s .right)

@@ -2,7 +2,7 @@
 -- right-introduction rule".
 use mathlib.Core.List.{List}
 use Rattle.calculus.specs.Formula.{Formula, Atomic}
-use Rattle.calculus.specs.Signature.{Signature}
+use Rattle.calculus.specs.Signature.{Signature, Sequent}
 use Rattle.calculus.specs.Derivation.{Derivation}
 
 -- a property of derivations, by the last sequent and the rule it is the conclusion of
@@ -90,3 +90,6 @@ module _ {S : Type 0} where
   pub record UniformProof (Σ : Signature S) (Γ : List (Formula S)) (C : Formula S) : Type 1 where
     pub tree : Derivation Σ Γ C
     pub uniform : Uniform tree
+
+  abbrev pub HasUniformProof : Sequent S → Type 1
+  HasUniformProof s = UniformProof (s .signature) (s .left) (s .right)
