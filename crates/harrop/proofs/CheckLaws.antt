@@ -95,7 +95,7 @@ module _ {Q : Type 0} (cs : Candidates Q) where
       let (d, h₂, r₂) = bind-some (getElem? c k) (step₂ a) x r₁ in
       let (y, h₃, r₃) = bind-some (follow cs o (d .clause) (d .bindings) path) (step₃ a) x r₂ in
       let (h₄, r₄) = provided-some (sameAtom (replacedAtom (cs .terms) (headOf y .1) (headOf y .0)) (replacedAtom (cs .terms) bs a)) (some y) x r₃ in
-      made a d y (is-atom g a h₁) h₂ h₃ (same-atoms-equal _ _ h₄) (Option·some-injective y x r₄)
+      made a d y (is-atom g a h₁) h₂ h₃ (same-atoms-equal (replacedAtom (cs .terms) (headOf y .1) (headOf y .0)) (replacedAtom (cs .terms) bs a) h₄) (Option·some-injective y x r₄)
     where
       made : (a : Atom) (d : AtHand Q) (y : End Q) → g ≡ Goal.atom a → getElem? c k ≡ some d → follow cs o (d .clause) (d .bindings) path ≡ some y → replacedAtom (cs .terms) (headOf y .1) (headOf y .0) ≡ replacedAtom (cs .terms) bs a → y ≡ x → Used o c bs g k path x
       made a d y h₁ h₂ h₃ h₄ q =

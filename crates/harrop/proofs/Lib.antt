@@ -14,3 +14,4 @@ pub mod SearchLaws
 pub mod SilentLaws
 pub mod FoundLaws
 pub mod Finding
+pub mod Cases

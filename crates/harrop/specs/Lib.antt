@@ -9,3 +9,4 @@ pub mod Check
 pub mod Search
 pub mod Order
 pub mod First
+pub mod Cases
