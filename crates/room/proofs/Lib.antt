@@ -1,0 +1,4 @@
+pub mod EnoughLaws
+pub mod FrameLaws
+pub mod FileLaws
+pub mod NestLaws

@@ -1,0 +1,54 @@
+-- How many bindings a formula can have in its frame, and how deep a term nests after its variables are replaced (document 01, "Sizes": list nesting at most 64).
+-- Every quantifier is a list of its own, so the number of bindings and the nesting of what they are bound in are together at most 64; 63 for a rule, which stands in a list.
+use Prim.Native.Nat.{ℕ, zero, suc, _+_, _≤_, _<_, max}
+use mathlib.Core.Path.{_≡_, refl, sym, _∙_, ap}
+use mathlib.Core.Bool.{Bool, true, false}
+use mathlib.Core.List.{List, [], _∷_}
+use mathlib.Core.Option.{Option, none, some, Option·some-injective}
+use native.Mathlib.Omega.{arith}
+use lib.ListN.{length, getElem?}
+use Rattle.basics.specs.Choice.{nope}
+use Rattle.harrop.specs.declared.Binding.{Binding}
+use Rattle.harrop.specs.declared.Binding.the-variants.{Candidate, Parameter}
+use Rattle.harrop.specs.Formula.{Term, Terms, Atom, Goal, Clause}
+use Rattle.harrop.specs.Bindings.{Bindings, meant, valueOf, replaced, replaceds, replacedAtom}
+use Rattle.harrop.specs.Place.{Plain}
+use Rattle.packet.specs.Written.{termSexp, termSexps, atomSexp, goalSexp, clauseSexp, rulesSexp, termsSexp, each}
+use Rattle.sexp.specs.Sexp.{Sexp, Sexps, nesting, nestings}
+use Rattle.room.specs.Layout.{levels}
+
+-- every formula and every term is a list
+pub term-nests : (t : Term) → 1 ≤ nesting (termSexp t)
+term-nests (Term.v i) = omega arith
+term-nests (Term.f g ts) = omega arith
+term-nests (Term.e k) = omega arith
+
+pub atom-nests : (a : Atom) → 1 ≤ nesting (atomSexp a)
+atom-nests (Atom.atom p ts) = omega arith
+
+pub goal-nests : (g : Goal Plain) → 1 ≤ nesting (goalSexp g)
+goal-nests Goal.top = omega arith
+goal-nests (Goal.atom a) = atom-nests a
+goal-nests (Goal.and g h) = omega arith
+goal-nests (Goal.or g h) = omega arith
+goal-nests (Goal.some q g) = omega arith
+goal-nests (Goal.all q g) = omega arith
+goal-nests (Goal.imp d g) = omega arith
+
+pub clause-nests : (d : Clause Plain) → 1 ≤ nesting (clauseSexp d)
+clause-nests (Clause.atomD a) = atom-nests a
+clause-nests (Clause.impD g a) = omega arith
+clause-nests (Clause.allD q d) = omega arith
+clause-nests (Clause.andD c d) = omega arith
+
+-- members of a list nest less than the list
+each-nests : {A : Type 0} (f : A → Sexp) (xs : List A) (i : ℕ) (x : A) → getElem? xs i ≡ some x → nesting (f x) ≤ nestings (each f xs)
+each-nests f [] i x e = nope e
+each-nests f (y ∷ xs) zero x e = let same = ap (λ z. nesting (f z)) (Option·some-injective y x e) in omega (arith, same)
+each-nests f (y ∷ xs) (suc i) x e = omega (arith, each-nests f xs i x e)
+
+pub rule-nests : (ds : List (Clause Plain)) (k : ℕ) (d : Clause Plain) → getElem? ds k ≡ some d → nesting (clauseSexp d) + 1 ≤ nesting (rulesSexp ds)
+rule-nests ds k d e = omega (arith, each-nests clauseSexp ds k d e)
+
+pub candidate-nests : (ts : List Term) (i : ℕ) (t : Term) → getElem? ts i ≡ some t → nesting (termSexp t) + 1 ≤ nesting (termsSexp ts)
+candidate-nests ts i t e = omega (arith, each-nests termSexp ts i t e)

@@ -1,0 +1,42 @@
+use lib.ListN.{List·getD-eq-default}
+use mathlib.Core.Path.{sym}
+use Prim.Native.Nat.{_+_}
+use native.Mathlib.Omega.{arith}
+use borrow.Author.Needs.{needs}
+use Rattle.room.proofs.words.word_after.Statement.{statement}
+use Rattle.room.proofs.words.word_after.Tie as tie
+use Rattle.room.proofs.words.word_after.Reads as reads
+use Rattle.room.proofs.words.word_after.Lts as lts
+
+-- src/words.rt:18:20
+sub-left : tie.Need-sub-left
+sub-left c = search needs
+
+-- src/words.rt:20:25
+add-result : tie.Need-add-result
+add-result c = search needs
+
+-- src/words.rt:20:20
+mul-result : tie.Need-mul-result
+mul-result c = search needs
+
+-- src/words.rt:20:20
+shared-slice-read-result : tie.Need-shared-slice-read-result
+shared-slice-read-result c = search needs
+
+-- src/words.rt:20:13
+returns : tie.Need-returns
+returns c = search needs
+
+-- src/words.rt:14:1
+returns-2 : tie.Need-returns-2
+returns-2 c = let x = c .before .before .args in sym (List·getD-eq-default (x .room .now) 0 {n = x .base + x .n} (omega arith))
+
+-- src/words.rt:14:1
+returns-3 : tie.Need-returns-3
+returns-3 c = let x = c .before .args in sym (List·getD-eq-default (x .room .now) 0 {n = x .base + x .n} (omega arith))
+
+pub word-after-spec : {M : Type 1} → statement M
+word-after-spec =
+    tie.close
+    (tie.spec sub-left add-result mul-result shared-slice-read-result returns returns-2 returns-3)

@@ -1,0 +1,4 @@
+pub mod Layout
+pub mod Frame
+pub mod Spot
+pub mod Table
