@@ -21,7 +21,13 @@ fn from(s: &[u8], at: usize) -> &[u8]
 }
 
 // The part of the file that is meant from `at` on.
-pub fn part<'a>(rules: &'a [u8], goal: &'a [u8], terms: &'a [u8], which: Source, at: usize) -> &'a [u8]
+pub fn part<'a>(
+    rules: &'a [u8],
+    goal: &'a [u8],
+    terms: &'a [u8],
+    which: Source,
+    at: usize,
+) -> &'a [u8]
     ensures { λ r. ⌜ now r ≡ drop at (fileOf (now (rules .entry)) (now (goal .entry)) (now (terms .entry)) which) ⌝ }
 {
     match which {

@@ -1,8 +1,15 @@
 // The work room: what its words hold, bindings in frames, supposed clauses, the tables of rules and candidates, and whether two atoms are equal under their bindings
 // (document 01, "When a strip fits", "Sizes").
-mod frame;
 mod file;
+mod frame;
 mod words;
+
+pub use file::part;
+pub use file::suppose;
+pub use file::supposed;
+pub use frame::copy;
+pub use frame::push;
+pub use frame::variable;
 
 // Which file a formula or a term stands in.
 pub enum Source {

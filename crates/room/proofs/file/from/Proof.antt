@@ -1,3 +1,4 @@
+-- `from` of src/file.rt meets its contract. Assumes nothing.
 use Rattle.room.proofs.FileLaws.{rest-whole}
 use lib.Seq.{drop-length}
 use lib.ListN.{length, drop-of-length-le}

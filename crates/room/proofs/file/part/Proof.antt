@@ -1,3 +1,4 @@
+-- `part` of src/file.rt meets its contract. Assumes nothing.
 use Rattle.room.specs.Spot.{fileOf}
 use Rattle.room.specs.declared.Source.{Source}
 use lib.ListN.{drop}

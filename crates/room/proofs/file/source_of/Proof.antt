@@ -1,3 +1,4 @@
+-- `source_of` of src/file.rt meets its contract. Assumes nothing.
 use Rattle.room.proofs.FileLaws.{number-1, number-2, number-3}
 use native.Mathlib.Omega.{arith}
 use borrow.Author.Needs.{needs}

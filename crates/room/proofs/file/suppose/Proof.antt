@@ -1,3 +1,4 @@
+-- `suppose` of src/file.rt meets its contract. Assumes nothing.
 use Rattle.room.proofs.FileLaws.{four-stored, supposing-some, supposing-none}
 use lib.ListN.{set}
 use Prim.Native.Nat.{ℕ, _+_, _*_}

@@ -1,3 +1,4 @@
+-- `supposed` of src/file.rt meets its contract. Assumes nothing.
 use Rattle.room.proofs.FileLaws.{spot-alike, supposed-some, supposed-none}
 use Rattle.room.specs.Spot.{sourceOf}
 use Prim.Native.Nat.{_+_, _*_}

@@ -1,3 +1,4 @@
+-- `binding_of` of src/frame.rt meets its contract. Assumes nothing.
 use Rattle.room.specs.Frame.{bindingOf}
 use borrow.Author.Tests.{eq-eqb, ne-eqb}
 use native.Mathlib.Omega.{arith}

@@ -1,3 +1,4 @@
+-- `copies` of src/frame.rt meets its contract. Assumes nothing.
 use Rattle.room.proofs.FrameLaws.{not-below, not-inside, both-fit}
 use native.Mathlib.Omega.{arith}
 use borrow.Author.Needs.{needs}

@@ -1,3 +1,4 @@
+-- `copy` of src/frame.rt meets its contract. Assumes nothing.
 use Rattle.room.proofs.FrameLaws.{not-copied, fit-bounds, copy-next, copied-is}
 use borrow.Author.Tests.{not-true, not-false}
 use lib.Seq.{paste, paste-zero}

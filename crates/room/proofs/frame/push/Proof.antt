@@ -1,3 +1,4 @@
+-- `push` of src/frame.rt meets its contract. Assumes nothing.
 use lib.ListN.{set}
 use Prim.Native.Nat.{ℕ}
 use mathlib.Core.Path.{sym, ap, _∙_}

@@ -1,3 +1,4 @@
+-- `variable` of src/frame.rt meets its contract. Assumes nothing.
 use Rattle.room.proofs.FrameLaws.{bound-in, bound-out}
 use Rattle.room.specs.Frame.{bindingOf}
 use mathlib.Core.Path.{sym, ap, _∙_}

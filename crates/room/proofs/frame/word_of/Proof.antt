@@ -1,3 +1,4 @@
+-- `word_of` of src/frame.rt meets its contract. Assumes nothing.
 use Rattle.room.specs.Frame.{held, bindingWord}
 use Rattle.harrop.specs.declared.Binding.{Binding}
 use mathlib.Core.Path.{sym, ap, _∙_}

@@ -1,3 +1,4 @@
+-- `put` of src/words.rt meets its contract. Assumes nothing.
 use lib.Seq.{set-out}
 use mathlib.Core.Path.{sym}
 use native.Mathlib.Omega.{arith}

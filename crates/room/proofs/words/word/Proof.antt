@@ -1,3 +1,4 @@
+-- `word` of src/words.rt meets its contract. Assumes nothing.
 use lib.ListN.{List·getD-eq-default}
 use mathlib.Core.Path.{sym}
 use native.Mathlib.Omega.{arith}

@@ -1,3 +1,4 @@
+-- `word_after` of src/words.rt meets its contract. Assumes nothing.
 use lib.ListN.{List·getD-eq-default}
 use mathlib.Core.Path.{sym}
 use Prim.Native.Nat.{_+_}
