@@ -1,1 +1,3 @@
 pub mod TableLaws
+pub mod KeyLaws
+pub mod WordLaws

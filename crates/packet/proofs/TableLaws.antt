@@ -3,18 +3,17 @@ use Prim.Native.Nat.{ℕ}
 use mathlib.Core.Path.{_≡_, refl, sym, ap, subst, _∙_}
 use mathlib.Core.Bool.{Bool, true, false, _&&_, not}
 use mathlib.Core.List.{List, [], _∷_}
-use mathlib.Core.Logic.{⊎-elim, _⊎_}
-use mathlib.Core.Option.{Option, none, some}
+use mathlib.Core.Logic.{⊎-elim}
+use mathlib.Core.Option.{none}
 use lib.Dec.{eqb}
 use types.Run.{OneOf}
 use denote.Enum.Declared.{tagOf}
 use borrow.Author.Tests.{ne-eqb, eqb-false, not-true}
-use Rattle.basics.specs.Choice.{choose, both-true}
+use Rattle.basics.specs.Choice.{both-true}
 use Rattle.packet.specs.declared.Word.{Word}
 use Rattle.packet.proofs.Word.{the-type}
 use Rattle.packet.specs.declared.Word.the-variants as W
 use Rattle.packet.specs.declared.Kind.{Kind}
-use Rattle.packet.specs.declared.Due.{Due}
 use Rattle.packet.specs.declared.table.Row.the-variants as R
 use Rattle.packet.specs.Rows.{rowOf}
 use Rattle.packet.specs.Table.{Row, rank, rows, look, dueAfter}

@@ -7,3 +7,5 @@ pub mod Read
 pub mod Rows
 pub mod Numbers
 pub mod File
+pub mod Key
+pub mod WordAt

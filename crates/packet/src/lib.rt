@@ -1,11 +1,13 @@
 // The table of words and the four files read (document 01, "The carrier and the words", "Sizes", "What comes back").
 mod table;
+mod words;
 
 pub use table::Follows;
 pub use table::Row;
 pub use table::due_after;
 pub use table::may_end;
 pub use table::next_due;
+pub use words::word_at;
 ghost use mathlib.Core.Path.{_≡_};
 ghost use Rattle.packet.specs.Numbers.{reasonNumber, fileNumber};
 
