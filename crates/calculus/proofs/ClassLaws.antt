@@ -1,6 +1,6 @@
 -- Goals are exactly document 003's G3 formulas and clauses its D3 formulas: every goal or clause translates into one, and every one is the translation of one.
 use mathlib.Core.Path.{_≡_, refl, ap, ap₂}
-use Rattle.harrop.specs.Formula.{Atom, Goal, Clause}
+use Rattle.harrop.specs.Formula.{Goal, Clause}
 use Rattle.calculus.specs.Formula.{Formula}
 use Rattle.calculus.specs.Translation.{goalFormula, clauseFormula}
 use Rattle.calculus.specs.Classes.{G3, D3}

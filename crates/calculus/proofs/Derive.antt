@@ -3,26 +3,25 @@
 use Prim.Native.Nat.{ℕ, zero, suc, _≤_}
 use mathlib.Core.Path.{_≡_, refl, sym, _∙_, ap, subst}
 use mathlib.Core.List.{List, [], _∷_, _++_, List·Permᴰ·nil, List·Permᴰ·cons, List·Permᴰ·swap, List·Permᴰ·trans, Permᴰ·refl, Permᴰ·symm, List·Memᴰ, List·Memᴰ·head, List·Memᴰ·tail}
-use mathlib.Core.Option.{Option, none, some, Option·some-injective}
+use mathlib.Core.Option.{some, Option·some-injective}
 use native.Mathlib.Omega.{arith}
 use lib.ListN.{length, getElem?}
 use Rattle.basics.specs.Choice.{nope}
 use Rattle.harrop.specs.declared.Binding.the-variants.{Candidate, Parameter}
 use Rattle.harrop.specs.Formula.{Term, Atom, Goal, Clause, Step, Strip}
 use Rattle.harrop.specs.Bindings.{Bindings, meant, valueOf, replacedAtom}
-use Rattle.harrop.specs.Place.{Candidates, AtHand, Hand, Place, End}
-use Rattle.harrop.specs.Proves.{May, Reaches, Proves, ProvesAt}
-use Rattle.calculus.specs.Formula.{Formula, Atomic}
-use Rattle.calculus.specs.Substitution.{inFormula, under, put}
-use Rattle.calculus.specs.Multiset.{_≈_, All}
-use Rattle.calculus.specs.Signature.{Symbols, Signature, Declares, Fresh, declare, Has, FormulaOver, Over, IsSequent}
+use Rattle.harrop.specs.Place.{Candidates, AtHand, Hand, End}
+use Rattle.harrop.specs.Proves.{May, Reaches, Proves}
+use Rattle.calculus.specs.Formula.{Formula}
+use Rattle.calculus.specs.Substitution.{inFormula, under}
+use Rattle.calculus.specs.Multiset.{_≈_}
+use Rattle.calculus.specs.Signature.{Symbols, Signature, Fresh, FormulaOver, Over, IsSequent}
 use Rattle.calculus.specs.Derivation.{Derivation}
-use Rattle.calculus.specs.Uniform.{Kind, NoCut, ByRight, Uniform, UniformProof}
-use Rattle.calculus.specs.Translation.{goalFormula, clauseFormula, parametersOf, signatureAt, standing, standingClause, leftOf, rightOf, sequentAt}
+use Rattle.calculus.specs.Translation.{goalFormula, clauseFormula, parametersOf, signatureAt, standing, standingClause, leftOf, rightOf}
 use Rattle.calculus.specs.Apt.{Apt}
 use Rattle.calculus.proofs.SubstitutionLaws.{bound, replaced-atom-is}
 use Rattle.calculus.proofs.SortLaws.{put-over, still-over, all-still-over}
-use Rattle.calculus.proofs.OrderLaws.{all-reordered, Throughout}
+use Rattle.calculus.proofs.OrderLaws.{all-reordered}
 
 module _ {Q : Type 0} where
   -- the parameters open at a place are numbered from 1 to p

@@ -8,3 +8,4 @@ pub mod Derive
 pub mod DeriveUniform
 pub mod PacketLaws
 pub mod RootDerived
+pub mod Unreached

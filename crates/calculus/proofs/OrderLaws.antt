@@ -1,11 +1,11 @@
 -- The order of the formulas on the left does not matter: a derivation is one of the same sequent in any order, by the same rules (specs/Multiset, specs/Derivation).
-use mathlib.Core.Path.{_≡_, refl, subst}
-use mathlib.Core.List.{List, [], _∷_, List·Permᴰ, List·Permᴰ·nil, List·Permᴰ·cons, List·Permᴰ·swap, List·Permᴰ·trans, Permᴰ·symm}
+use mathlib.Core.Path.{refl, subst}
+use mathlib.Core.List.{List, List·Permᴰ·nil, List·Permᴰ·cons, List·Permᴰ·swap, List·Permᴰ·trans, Permᴰ·symm}
 use Rattle.calculus.specs.Formula.{Formula, Atomic}
 use Rattle.calculus.specs.Multiset.{_≈_, All}
 use Rattle.calculus.specs.Signature.{Signature, Over, IsSequent}
 use Rattle.calculus.specs.Derivation.{Derivation}
-use Rattle.calculus.specs.Uniform.{Kind, NoCut, ByRight, Everywhere, lastRule, Uniform, UniformProof}
+use Rattle.calculus.specs.Uniform.{Rule, NoCut, ByRight, Everywhere, lastRule, UniformProof}
 
 pub all-reordered : {A : Type 0} (P : A → Type 0) {Γ Δ : List A} → Γ ≈ Δ → All P Γ → All P Δ
 all-reordered P List·Permᴰ·nil h = tt
@@ -41,7 +41,7 @@ module _ {S : Type 0} where
   reordered w (Derivation.some-R t q h e D) = Derivation.some-R t (sequent-reordered w q) h e (reordered w D)
 
   -- what holds of the right sides and the rules at every sequent still holds
-  module _ (R : Formula S → Kind → Type 0) where
+  module _ (R : Formula S → Rule → Type 0) where
     abbrev pub Throughout : {Σ : Signature S} {Γ : List (Formula S)} {C : Formula S} → Derivation Σ Γ C → Type 0
     Throughout d = Everywhere (λ Σ Γ C e. R C (lastRule e)) d
 

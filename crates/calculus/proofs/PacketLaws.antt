@@ -1,32 +1,30 @@
 -- A packet's formulas and candidates are over its signature (specs/Packet): rules and goal have no free variable and no parameter, candidates no variable and parameters from 1 on.
-use Prim.Native.Nat.{ℕ, zero, suc, _≤_, _<_, max}
-use mathlib.Core.Path.{_≡_, refl, sym, _∙_, ap, ap₂, subst}
-use mathlib.Core.List.{List, [], _∷_, _++_, map, List·Memᴰ, List·Memᴰ·head, List·Memᴰ·tail, Memᴰ·append-left, Memᴰ·append-right}
+use Prim.Native.Nat.{ℕ, zero, suc, _≤_, _<_}
+use mathlib.Core.Path.{_≡_, refl, sym, ap, subst}
+use mathlib.Core.List.{List, [], _∷_, _++_, List·Memᴰ, List·Memᴰ·head, List·Memᴰ·tail, Memᴰ·append-left, Memᴰ·append-right}
 use mathlib.Core.Option.{Option, none, some, Option·some-injective}
 use native.Mathlib.Omega.{arith}
 use native.Mathlib.Decide.{ℕ-discrete}
 use lib.ListN.{length, getElem?}
 use Rattle.basics.specs.Choice.{nope}
-use Rattle.harrop.specs.declared.Binding.the-variants.{Candidate}
 use Rattle.harrop.specs.Formula.{Name, Term, Terms, Atom, Goal, Clause}
 use Rattle.harrop.specs.Bindings.{highest, highests, nothing}
 use Rattle.harrop.specs.Place.{Plain, listed}
-use Rattle.harrop.specs.Proves.{May}
 use Rattle.calculus.specs.Formula.{Formula}
 use Rattle.calculus.specs.Multiset.{All}
-use Rattle.calculus.specs.Signature.{Symbols, Signature, Declares, HasSort, HaveSorts, Has, FormulaOver, Over}
+use Rattle.calculus.specs.Signature.{Declares, HasSort, HaveSorts, Has, FormulaOver, Over}
 use Rattle.calculus.specs.Translation.{parametersOf, signatureAt}
 use Rattle.calculus.specs.Apt.{Apt}
-use Rattle.calculus.specs.Packet.{Symbol, count, functionsIn, functionsInAll, ofAtoms, atomFunctions, atomPredicates, ofEach, formulasOf, plain, packetSymbols, packetSignature, Within, AllWithin, FormulaWithin, Closed, Candid, Fair}
+use Rattle.calculus.specs.Packet.{Symbol, count, functionsIn, functionsInAll, ofAtoms, atomFunctions, atomPredicates, ofEach, formulasOf, plain, packetFunctions, packetPredicates, packetSymbols, packetSignature, Within, AllWithin, FormulaWithin, Candid, Fair}
 
--- every member of one list is one of the other
-abbrev Among : List Symbol → List Symbol → Type 0
-Among xs ys = (x : Symbol) → List·Memᴰ x xs → List·Memᴰ x ys
+-- every member of the list is one of the set
+abbrev pub Among : List Symbol → (Symbol → Type 0) → Type 0
+Among xs F = (x : Symbol) → List·Memᴰ x xs → F x
 
-among-first : (xs ys : List Symbol) {zs : List Symbol} → Among (xs ++ ys) zs → Among xs zs
+among-first : (xs ys : List Symbol) {F : Symbol → Type 0} → Among (xs ++ ys) F → Among xs F
 among-first xs ys h x m = h x (Memᴰ·append-left ys m)
 
-among-second : (xs ys : List Symbol) {zs : List Symbol} → Among (xs ++ ys) zs → Among ys zs
+among-second : (xs ys : List Symbol) {F : Symbol → Type 0} → Among (xs ++ ys) F → Among ys F
 among-second xs ys h x m = h x (Memᴰ·append-right xs m)
 
 -- one sort for each term
@@ -38,8 +36,8 @@ sorts-counted : (ts : Terms) → length (sortsFor ts) ≡ count ts
 sorts-counted Terms.nil = refl
 sorts-counted (Terms.cons t ts) = ap (λ (n : ℕ). suc n) (sorts-counted ts)
 
-counted : (g : Name) (ts : Terms) {xs : List Symbol} → List·Memᴰ (g, count ts) xs → List·Memᴰ (g, length (sortsFor ts)) xs
-counted g ts {xs} m = subst (λ (n : ℕ). List·Memᴰ (g, n) xs) (sym (sorts-counted ts)) m
+counted : (F : Symbol → Type 0) (g : Name) (ts : Terms) → F (g, count ts) → F (g, length (sortsFor ts))
+counted F g ts m = subst (λ (n : ℕ). F (g, n)) (sym (sorts-counted ts)) m
 
 -- a variable below their number has the one sort
 variable-has : (vs : List Plain) (i : ℕ) (s : Plain) → i < length vs → getElem? vs i ≡ some s
@@ -47,19 +45,19 @@ variable-has [] i s h = absurd (omega arith)
 variable-has (v ∷ vs) zero s h = refl
 variable-has (v ∷ vs) (suc i) s h = variable-has vs i s (omega arith)
 
-module _ (fs ps : List Symbol) (o : List Plain) (P : ℕ → Type 0) (h : (k : ℕ) → P k → (s : Plain) → Declares (signatureAt (plain fs ps) o) k s) where
+module _ (F G : Symbol → Type 0) (o : List Plain) (P : ℕ → Type 0) (h : (k : ℕ) → P k → (s : Plain) → Declares (signatureAt (plain F G) o) k s) where
   mutual
-    plain-has : (vs : List Plain) (t : Term) (s : Plain) → Within P (length vs) t → Among (functionsIn t) fs → HasSort (signatureAt (plain fs ps) o) vs t s
+    plain-has : (vs : List Plain) (t : Term) (s : Plain) → Within P (length vs) t → Among (functionsIn t) F → HasSort (signatureAt (plain F G) o) vs t s
     plain-has vs (Term.v i) s w m = variable-has vs i s w
-    plain-has vs (Term.f g ts) s w m = (sortsFor ts, counted g ts (m (g, count ts) (List·Memᴰ·head refl)), plain-have vs ts w (λ x n. m x (List·Memᴰ·tail n)))
+    plain-has vs (Term.f g ts) s w m = (sortsFor ts, counted F g ts (m (g, count ts) (List·Memᴰ·head refl)), plain-have vs ts w (λ x n. m x (List·Memᴰ·tail n)))
     plain-has vs (Term.e k) s w m = h k w s
 
-    plain-have : (vs : List Plain) (ts : Terms) → AllWithin P (length vs) ts → Among (functionsInAll ts) fs → HaveSorts (signatureAt (plain fs ps) o) vs ts (sortsFor ts)
+    plain-have : (vs : List Plain) (ts : Terms) → AllWithin P (length vs) ts → Among (functionsInAll ts) F → HaveSorts (signatureAt (plain F G) o) vs ts (sortsFor ts)
     plain-have vs Terms.nil w m = tt
     plain-have vs (Terms.cons t ts) w m = (plain-has vs t tt (w .0) (among-first (functionsIn t) (functionsInAll ts) m), plain-have vs ts (w .1) (among-second (functionsIn t) (functionsInAll ts) m))
 
-  plain-over : (vs : List Plain) (B : Formula Plain) → FormulaWithin P (length vs) B → Among (ofAtoms atomFunctions B) fs → Among (ofAtoms atomPredicates B) ps → FormulaOver (signatureAt (plain fs ps) o) vs B
-  plain-over vs (Formula.atom (Atom.atom p ts)) w m n = (sortsFor ts, counted p ts (n (p, count ts) (List·Memᴰ·head refl)), plain-have vs ts w m)
+  plain-over : (vs : List Plain) (B : Formula Plain) → FormulaWithin P (length vs) B → Among (ofAtoms atomFunctions B) F → Among (ofAtoms atomPredicates B) G → FormulaOver (signatureAt (plain F G) o) vs B
+  plain-over vs (Formula.atom (Atom.atom p ts)) w m n = (sortsFor ts, counted G p ts (n (p, count ts) (List·Memᴰ·head refl)), plain-have vs ts w m)
   plain-over vs Formula.top w m n = tt
   plain-over vs Formula.bottom w m n = tt
   plain-over vs (Formula.and B C) w m n =
@@ -71,7 +69,7 @@ module _ (fs ps : List Symbol) (o : List Plain) (P : ℕ → Type 0) (h : (k : �
   plain-over vs (Formula.all s B) w m n = plain-over (s ∷ vs) B w m n
   plain-over vs (Formula.some s B) w m n = plain-over (s ∷ vs) B w m n
 
-  all-plain-over : (L : List (Formula Plain)) → All (FormulaWithin P 0) L → Among (ofEach (ofAtoms atomFunctions) L) fs → Among (ofEach (ofAtoms atomPredicates) L) ps → All (Over (signatureAt (plain fs ps) o)) L
+  all-plain-over : (L : List (Formula Plain)) → All (FormulaWithin P 0) L → Among (ofEach (ofAtoms atomFunctions) L) F → Among (ofEach (ofAtoms atomPredicates) L) G → All (Over (signatureAt (plain F G) o)) L
   all-plain-over [] w m n = tt
   all-plain-over (B ∷ L) w m n =
       (plain-over [] B (w .0) (among-first (ofAtoms atomFunctions B) (ofEach (ofAtoms atomFunctions) L) m) (among-first (ofAtoms atomPredicates B) (ofEach (ofAtoms atomPredicates) L) n), all-plain-over L (w .1) (among-second (ofAtoms atomFunctions B) (ofEach (ofAtoms atomFunctions) L) m) (among-second (ofAtoms atomPredicates B) (ofEach (ofAtoms atomPredicates) L) n))
@@ -96,9 +94,9 @@ open-is-declared (q ∷ o) k s l u = go (λ h. open-is-declared o k s l h) (ℕ-
     go f (no n) = List·Memᴰ·tail (f (omega arith))
 
 -- candidate i is candid, and its functions are those of the list
-listed-candid : (ts : List Term) (i : ℕ) (t : Term) → All Candid ts → getElem? ts i ≡ some t → Candid t × Among (functionsIn t) (ofEach functionsIn ts)
+listed-candid : (ts : List Term) (i : ℕ) (t : Term) → All Candid ts → getElem? ts i ≡ some t → Candid t × Among (functionsIn t) (λ x. List·Memᴰ x (ofEach functionsIn ts))
 listed-candid [] i t c e = nope e
-listed-candid (x ∷ ts) zero t c e = subst (λ (y : Term). Candid y × Among (functionsIn y) (ofEach functionsIn (x ∷ ts))) (Option·some-injective x t e) (c .0, λ z m. Memᴰ·append-left (ofEach functionsIn ts) m)
+listed-candid (x ∷ ts) zero t c e = subst (λ (y : Term). Candid y × Among (functionsIn y) (λ u. List·Memᴰ u (ofEach functionsIn (x ∷ ts)))) (Option·some-injective x t e) (c .0, λ z m. Memᴰ·append-left (ofEach functionsIn ts) m)
 listed-candid (x ∷ ts) (suc i) t c e = let (d, h) = listed-candid ts i t (c .1) e in (d, λ z m. Memᴰ·append-right (functionsIn x) (h z m))
 
 -- the candidates of a fair packet have the sort asked for wherever they may be used
@@ -111,11 +109,11 @@ packet-apt ds g ts f o s i m = subst (λ (x : Option Term). Has (signatureAt (pa
     here : Has (signatureAt (packetSymbols ds g ts) o) (m .term) s
     here =
         let (c, h) = listed-candid ts i (m .term) (f .candid) (m .isListed) in
-        plain-has (ofEach functionsIn ts ++ rest) (ofEach (ofAtoms atomPredicates) (formulasOf ds g)) o (λ k. (1 ≤ k) × (k ≤ length o)) (λ k b r. open-is-declared o k r (b .0) (b .1))
+        plain-has (λ x. List·Memᴰ x (packetFunctions ds g ts)) (λ x. List·Memᴰ x (packetPredicates ds g)) o (λ k. (1 ≤ k) × (k ≤ length o)) (λ k b r. open-is-declared o k r (b .0) (b .1))
         [] (m .term) s (bounded (length o) (m .term) c (m .isOpen)) (λ x n. Memᴰ·append-left rest (h x n))
 
 -- the formulas of a fair packet are over its signature
 pub packet-over : (ds : List (Clause Plain)) (g : Goal Plain) (ts : List Term) → Fair ds g ts → All (Over (packetSignature ds g ts)) (formulasOf ds g)
 packet-over ds g ts f =
-    all-plain-over (ofEach functionsIn ts ++ ofEach (ofAtoms atomFunctions) (formulasOf ds g)) (ofEach (ofAtoms atomPredicates) (formulasOf ds g)) [] (λ k. ⊥) (λ k b s. absurd b)
+    all-plain-over (λ x. List·Memᴰ x (packetFunctions ds g ts)) (λ x. List·Memᴰ x (packetPredicates ds g)) [] (λ k. ⊥) (λ k b s. absurd b)
     (formulasOf ds g) (f .closed) (λ x m. Memᴰ·append-right (ofEach functionsIn ts) m) (λ x m. m)

@@ -1,7 +1,6 @@
 -- Every strip that is a proof of a packet stands for a uniform derivation without cut in Figure 1, rules on the left in any order and goal on the right, over the packet's signature
 -- (document 01, demand 3 and "What the desk judges").
-use Prim.Native.Nat.{ℕ, _<_}
-use mathlib.Core.Path.{_≡_, refl, sym, _∙_, ap, subst}
+use mathlib.Core.Path.{_≡_, sym, subst}
 use mathlib.Core.List.{List, [], _∷_, map, List·Permᴰ·nil, List·Permᴰ·cons, List·Permᴰ·trans, Permᴰ·symm}
 use native.Mathlib.Omega.{arith}
 use Rattle.harrop.specs.Formula.{Term, Goal, Clause, Strip}
@@ -13,8 +12,8 @@ use Rattle.calculus.specs.Substitution.{inFormula}
 use Rattle.calculus.specs.Multiset.{_≈_, All}
 use Rattle.calculus.specs.Signature.{Over, WellTyped}
 use Rattle.calculus.specs.Uniform.{UniformProof}
-use Rattle.calculus.specs.Translation.{goalFormula, clauseFormula, leftOf, rightOf, sequentAt}
-use Rattle.calculus.specs.Packet.{packetSymbols, packetSignature, formulasOf, Closed, Fair}
+use Rattle.calculus.specs.Translation.{goalFormula, clauseFormula, leftOf, sequentAt}
+use Rattle.calculus.specs.Packet.{packetSymbols, packetSignature, Closed, Fair}
 use Rattle.calculus.proofs.SubstitutionLaws.{kept}
 use Rattle.calculus.proofs.OrderLaws.{all-reordered, in-any-order}
 use Rattle.calculus.proofs.DeriveUniform.{derived}

@@ -1,15 +1,15 @@
 -- A term keeps its sort, and a formula stays over its signature, when variables are replaced by terms of their sorts and when the signature grows (specs/Signature).
 use Prim.Native.Nat.{ℕ, zero, suc}
-use mathlib.Core.Path.{_≡_, refl, sym, _∙_, ap, subst}
-use mathlib.Core.List.{List, [], _∷_, List·Memᴰ, List·Memᴰ·tail}
-use mathlib.Core.Option.{Option, none, some, Option·some-injective}
+use mathlib.Core.Path.{_≡_, subst}
+use mathlib.Core.List.{List, [], _∷_, List·Memᴰ·tail}
+use mathlib.Core.Option.{some, Option·some-injective}
 use lib.ListN.{getElem?}
 use Rattle.basics.specs.Choice.{nope}
-use Rattle.harrop.specs.Formula.{Name, Term, Terms, Atom}
+use Rattle.harrop.specs.Formula.{Term, Terms, Atom}
 use Rattle.calculus.specs.Formula.{Formula}
-use Rattle.calculus.specs.Substitution.{Substitution, renumbered, renumbereds, raised, inTerm, inTerms, before, under, inFormula, itself, put}
+use Rattle.calculus.specs.Substitution.{Substitution, renumbered, renumbereds, inTerm, inTerms, before, under, inFormula, itself, put}
 use Rattle.calculus.specs.Multiset.{All}
-use Rattle.calculus.specs.Signature.{Signature, Declares, declare, HasSort, HaveSorts, Has, AtomOver, FormulaOver, Over}
+use Rattle.calculus.specs.Signature.{Signature, declare, HasSort, HaveSorts, Has, FormulaOver, Over}
 
 module _ {S : Type 0} (Σ : Signature S) where
   -- variables renumbered to variables of the same sorts

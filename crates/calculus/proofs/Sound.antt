@@ -1,13 +1,13 @@
 -- Every rule of Figure 1 keeps the value of the right side at least as high as the least on the left, cut or no cut (specs/Values).
-use Prim.Native.Nat.{ℕ, _≤_, _<_, min, max}
-use mathlib.Core.Path.{_≡_, refl, sym, _∙_, ap, ap₂}
+use Prim.Native.Nat.{ℕ, _≤_, min, max}
+use mathlib.Core.Path.{_≡_, refl, _∙_, ap, ap₂}
 use mathlib.Core.Bool.{Bool, true, false}
-use mathlib.Core.List.{List, [], _∷_, _++_, List·Permᴰ, List·Permᴰ·nil, List·Permᴰ·cons, List·Permᴰ·swap, List·Permᴰ·trans}
+use mathlib.Core.List.{List, [], _∷_, _++_, List·Permᴰ·nil, List·Permᴰ·cons, List·Permᴰ·swap, List·Permᴰ·trans}
 use native.Mathlib.Omega.{arith}
 use lib.Dec.{leb}
 use borrow.Author.Tests.{leb-true, leb-false}
 use Rattle.basics.specs.Choice.{choose}
-use Rattle.harrop.specs.Formula.{Name, Term, Terms, Atom}
+use Rattle.harrop.specs.Formula.{Name, Term, Atom}
 use Rattle.calculus.specs.Formula.{Formula}
 use Rattle.calculus.specs.Substitution.{Substitution, inFormula, before, itself, under}
 use Rattle.calculus.specs.Multiset.{_≈_}

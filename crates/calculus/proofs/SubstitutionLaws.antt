@@ -4,7 +4,7 @@ use mathlib.Core.Path.{_≡_, refl, sym, _∙_, ap, ap₂, fun-ext}
 use mathlib.Core.List.{List, _∷_}
 use native.Mathlib.Omega.{arith}
 use Rattle.harrop.specs.declared.Binding.{Binding}
-use Rattle.harrop.specs.Formula.{Name, Term, Terms, Atom}
+use Rattle.harrop.specs.Formula.{Term, Terms, Atom}
 use Rattle.harrop.specs.Bindings.{Bindings, meant, valueOf, replaced, replaceds, replacedAtom}
 use Rattle.calculus.specs.Formula.{Formula}
 use Rattle.calculus.specs.Substitution.{Substitution, renumbered, renumbereds, raised, inTerm, inTerms, inAtom, before, under, inFormula, itself, put}

@@ -1,8 +1,8 @@
 -- What Figure 1 does not derive, with or without cut, over any signature: an atom from nothing, Peirce's law, and (p ⊃ q) ∨ p (document 01, cases 9 and 10). All by `sound`.
-use Prim.Native.Nat.{ℕ, _≤_, max}
-use mathlib.Core.Path.{_≡_, refl, sym, _∙_, ap, ap₂}
+use Prim.Native.Nat.{ℕ, max}
+use mathlib.Core.Path.{_≡_, refl, sym, ap, ap₂}
 use mathlib.Core.Bool.{Bool, true, false}
-use mathlib.Core.List.{List, []}
+use mathlib.Core.List.{[]}
 use native.Mathlib.Omega.{arith}
 use Rattle.basics.specs.Choice.{choose}
 use Rattle.harrop.specs.Formula.{Name, Terms, Atom}

@@ -55,12 +55,19 @@ ofEach h (x ∷ xs) = h x ++ ofEach h xs
 abbrev pub formulasOf : {Q : Type 0} → List (Clause Q) → Goal Q → List (Formula Q)
 formulasOf ds g = goalFormula g ∷ map clauseFormula ds
 
--- of one sort: these functions and these predicates
-abbrev pub plain : List Symbol → List Symbol → Symbols Plain
-plain fs ps = record { function = λ f ss s. List·Memᴰ (f, length ss) fs; predicate = λ p ss. List·Memᴰ (p, length ss) ps }
+-- of one sort, where a symbol is a name with its number of arguments: these functions and these predicates
+abbrev pub plain : (Symbol → Type 0) → (Symbol → Type 0) → Symbols Plain
+plain F P = record { function = λ f ss s. F (f, length ss); predicate = λ p ss. P (p, length ss) }
+
+-- the functions and the predicates of a packet
+abbrev pub packetFunctions : List (Clause Plain) → Goal Plain → List Term → List Symbol
+packetFunctions ds g ts = ofEach functionsIn ts ++ ofEach (ofAtoms atomFunctions) (formulasOf ds g)
+
+abbrev pub packetPredicates : List (Clause Plain) → Goal Plain → List Symbol
+packetPredicates ds g = ofEach (ofAtoms atomPredicates) (formulasOf ds g)
 
 abbrev pub packetSymbols : List (Clause Plain) → Goal Plain → List Term → Symbols Plain
-packetSymbols ds g ts = plain (ofEach functionsIn ts ++ ofEach (ofAtoms atomFunctions) (formulasOf ds g)) (ofEach (ofAtoms atomPredicates) (formulasOf ds g))
+packetSymbols ds g ts = plain (λ x. List·Memᴰ x (packetFunctions ds g ts)) (λ x. List·Memᴰ x (packetPredicates ds g))
 
 abbrev pub packetSignature : List (Clause Plain) → Goal Plain → List Term → Signature Plain
 packetSignature ds g ts = record { symbols = packetSymbols ds g ts; parameters = [] }

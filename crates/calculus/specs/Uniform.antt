@@ -1,6 +1,6 @@
 -- Cut-free, and Definition 2 of document 004: "a cut-free intuitionistic proof is a uniform proof if every sequent in the proof with a non-atomic succedent is the conclusion of a
 -- right-introduction rule".
-use mathlib.Core.List.{List}
+use mathlib.Core.List.{List, [], _∷_, _++_}
 use Rattle.calculus.specs.Formula.{Formula, Atomic}
 use Rattle.calculus.specs.Signature.{Signature, Sequent}
 use Rattle.calculus.specs.Derivation.{Derivation}
@@ -9,27 +9,68 @@ use Rattle.calculus.specs.Derivation.{Derivation}
 abbrev pub Property : Type 0 → Type 1
 Property S = (Σ : Signature S) (Γ : List (Formula S)) (C : Formula S) → Derivation Σ Γ C → Type 0
 
--- which rule came last
-pub data Kind : Type 0 where
-  initial : Kind
-  cuts : Kind
-  structural : Kind
-  left : Kind  -- a left-introduction rule
-  right : Kind  -- a right-introduction rule
+-- the rules of Figure 1
+pub data Rule : Type 0 where
+  id : Rule
+  cut : Rule
+  contr-L : Rule
+  weak-L : Rule
+  bottom-L : Rule
+  top-R : Rule
+  and-L₁ : Rule
+  and-L₂ : Rule
+  and-R : Rule
+  or-L : Rule
+  or-R₁ : Rule
+  or-R₂ : Rule
+  implies-L : Rule
+  implies-R : Rule
+  all-L : Rule
+  all-R : Rule
+  some-L : Rule
+  some-R : Rule
 
-abbrev pub NoCut : Kind → Type 0
-NoCut Kind.initial = Unit {0}
-NoCut Kind.cuts = ⊥
-NoCut Kind.structural = Unit {0}
-NoCut Kind.left = Unit {0}
-NoCut Kind.right = Unit {0}
+-- every rule but cut
+abbrev pub NoCut : Rule → Type 0
+NoCut Rule.id = Unit {0}
+NoCut Rule.cut = ⊥
+NoCut Rule.contr-L = Unit {0}
+NoCut Rule.weak-L = Unit {0}
+NoCut Rule.bottom-L = Unit {0}
+NoCut Rule.top-R = Unit {0}
+NoCut Rule.and-L₁ = Unit {0}
+NoCut Rule.and-L₂ = Unit {0}
+NoCut Rule.and-R = Unit {0}
+NoCut Rule.or-L = Unit {0}
+NoCut Rule.or-R₁ = Unit {0}
+NoCut Rule.or-R₂ = Unit {0}
+NoCut Rule.implies-L = Unit {0}
+NoCut Rule.implies-R = Unit {0}
+NoCut Rule.all-L = Unit {0}
+NoCut Rule.all-R = Unit {0}
+NoCut Rule.some-L = Unit {0}
+NoCut Rule.some-R = Unit {0}
 
-abbrev pub ByRight : Kind → Type 0
-ByRight Kind.initial = ⊥
-ByRight Kind.cuts = ⊥
-ByRight Kind.structural = ⊥
-ByRight Kind.left = ⊥
-ByRight Kind.right = Unit {0}
+-- the right-introduction rules; ⊤ R is one
+abbrev pub ByRight : Rule → Type 0
+ByRight Rule.id = ⊥
+ByRight Rule.cut = ⊥
+ByRight Rule.contr-L = ⊥
+ByRight Rule.weak-L = ⊥
+ByRight Rule.bottom-L = ⊥
+ByRight Rule.top-R = Unit {0}
+ByRight Rule.and-L₁ = ⊥
+ByRight Rule.and-L₂ = ⊥
+ByRight Rule.and-R = Unit {0}
+ByRight Rule.or-L = ⊥
+ByRight Rule.or-R₁ = Unit {0}
+ByRight Rule.or-R₂ = Unit {0}
+ByRight Rule.implies-L = ⊥
+ByRight Rule.implies-R = Unit {0}
+ByRight Rule.all-L = ⊥
+ByRight Rule.all-R = Unit {0}
+ByRight Rule.some-L = ⊥
+ByRight Rule.some-R = Unit {0}
 
 module _ {S : Type 0} where
   -- P holds at every sequent in the derivation
@@ -53,25 +94,47 @@ module _ {S : Type 0} where
   Everywhere P {Σ} {Γ} {C} (Derivation.some-L y q m h n D) = P Σ Γ C (Derivation.some-L y q m h n D) × Everywhere P D
   Everywhere P {Σ} {Γ} (Derivation.some-R {τ = s} {B = B} t q h e D) = P Σ Γ (Formula.some s B) (Derivation.some-R t q h e D) × Everywhere P D
 
-  abbrev pub lastRule : {Σ : Signature S} {Γ : List (Formula S)} {C : Formula S} → Derivation Σ Γ C → Kind
-  lastRule (Derivation.id q m) = Kind.initial
-  lastRule (Derivation.cut q m n D E) = Kind.cuts
-  lastRule (Derivation.contr-L q m n D) = Kind.structural
-  lastRule (Derivation.weak-L q m D) = Kind.structural
-  lastRule (Derivation.bottom-L q m) = Kind.left
-  lastRule (Derivation.top-R q) = Kind.right
-  lastRule (Derivation.and-L₁ q m n D) = Kind.left
-  lastRule (Derivation.and-L₂ q m n D) = Kind.left
-  lastRule (Derivation.and-R q D E) = Kind.right
-  lastRule (Derivation.or-L q m n l D E) = Kind.left
-  lastRule (Derivation.or-R₁ q D) = Kind.right
-  lastRule (Derivation.or-R₂ q D) = Kind.right
-  lastRule (Derivation.implies-L q m n D E) = Kind.left
-  lastRule (Derivation.implies-R q m D) = Kind.right
-  lastRule (Derivation.all-L t q m h n D) = Kind.left
-  lastRule (Derivation.all-R y q h e D) = Kind.right
-  lastRule (Derivation.some-L y q m h n D) = Kind.left
-  lastRule (Derivation.some-R t q h e D) = Kind.right
+  -- the rule that the last sequent is the conclusion of
+  abbrev pub lastRule : {Σ : Signature S} {Γ : List (Formula S)} {C : Formula S} → Derivation Σ Γ C → Rule
+  lastRule (Derivation.id q m) = Rule.id
+  lastRule (Derivation.cut q m n D E) = Rule.cut
+  lastRule (Derivation.contr-L q m n D) = Rule.contr-L
+  lastRule (Derivation.weak-L q m D) = Rule.weak-L
+  lastRule (Derivation.bottom-L q m) = Rule.bottom-L
+  lastRule (Derivation.top-R q) = Rule.top-R
+  lastRule (Derivation.and-L₁ q m n D) = Rule.and-L₁
+  lastRule (Derivation.and-L₂ q m n D) = Rule.and-L₂
+  lastRule (Derivation.and-R q D E) = Rule.and-R
+  lastRule (Derivation.or-L q m n l D E) = Rule.or-L
+  lastRule (Derivation.or-R₁ q D) = Rule.or-R₁
+  lastRule (Derivation.or-R₂ q D) = Rule.or-R₂
+  lastRule (Derivation.implies-L q m n D E) = Rule.implies-L
+  lastRule (Derivation.implies-R q m D) = Rule.implies-R
+  lastRule (Derivation.all-L t q m h n D) = Rule.all-L
+  lastRule (Derivation.all-R y q h e D) = Rule.all-R
+  lastRule (Derivation.some-L y q m h n D) = Rule.some-L
+  lastRule (Derivation.some-R t q h e D) = Rule.some-R
+
+  -- the rules of a derivation, the last first and each before those of its premises
+  abbrev pub rulesIn : {Σ : Signature S} {Γ : List (Formula S)} {C : Formula S} → Derivation Σ Γ C → List Rule
+  rulesIn (Derivation.id q m) = Rule.id ∷ []
+  rulesIn (Derivation.cut q m n D E) = Rule.cut ∷ (rulesIn D ++ rulesIn E)
+  rulesIn (Derivation.contr-L q m n D) = Rule.contr-L ∷ rulesIn D
+  rulesIn (Derivation.weak-L q m D) = Rule.weak-L ∷ rulesIn D
+  rulesIn (Derivation.bottom-L q m) = Rule.bottom-L ∷ []
+  rulesIn (Derivation.top-R q) = Rule.top-R ∷ []
+  rulesIn (Derivation.and-L₁ q m n D) = Rule.and-L₁ ∷ rulesIn D
+  rulesIn (Derivation.and-L₂ q m n D) = Rule.and-L₂ ∷ rulesIn D
+  rulesIn (Derivation.and-R q D E) = Rule.and-R ∷ (rulesIn D ++ rulesIn E)
+  rulesIn (Derivation.or-L q m n l D E) = Rule.or-L ∷ (rulesIn D ++ rulesIn E)
+  rulesIn (Derivation.or-R₁ q D) = Rule.or-R₁ ∷ rulesIn D
+  rulesIn (Derivation.or-R₂ q D) = Rule.or-R₂ ∷ rulesIn D
+  rulesIn (Derivation.implies-L q m n D E) = Rule.implies-L ∷ (rulesIn D ++ rulesIn E)
+  rulesIn (Derivation.implies-R q m D) = Rule.implies-R ∷ rulesIn D
+  rulesIn (Derivation.all-L t q m h n D) = Rule.all-L ∷ rulesIn D
+  rulesIn (Derivation.all-R y q h e D) = Rule.all-R ∷ rulesIn D
+  rulesIn (Derivation.some-L y q m h n D) = Rule.some-L ∷ rulesIn D
+  rulesIn (Derivation.some-R t q h e D) = Rule.some-R ∷ rulesIn D
 
   -- no rule in it is cut
   abbrev pub CutFree : {Σ : Signature S} {Γ : List (Formula S)} {C : Formula S} → Derivation Σ Γ C → Type 0

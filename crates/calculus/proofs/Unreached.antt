@@ -1,0 +1,168 @@
+-- Two sequents that have no derivation without cut, one for each condition on the quantifier rules of Figure 1: no there-is from for-alls where the signature has no term (Σ ⊢ t : τ),
+-- and no for-all from one instance (y ∉ Σ).
+use Prim.Native.Nat.{ℕ}
+use mathlib.Core.Path.{_≡_, refl, sym, _∙_, ap, subst}
+use mathlib.Core.List.{List, [], _∷_, List·Memᴰ·tail, List·Memᴰ·not-nil, Permᴰ·symm}
+use Rattle.basics.specs.Choice.{nope}
+use Rattle.harrop.specs.Formula.{Name, Term, Terms, Atom}
+use Rattle.calculus.specs.Formula.{Formula}
+use Rattle.calculus.specs.Substitution.{put}
+use Rattle.calculus.specs.Multiset.{_≈_, All}
+use Rattle.calculus.specs.Signature.{Signature, Declares, Fresh, Has}
+use Rattle.calculus.specs.Derivation.{Derivation}
+use Rattle.calculus.specs.Uniform.{CutFree}
+use Rattle.calculus.proofs.OrderLaws.{all-reordered}
+
+-- p(t)
+abbrev pub at : {S : Type 0} → Name → Term → Formula S
+at p t = Formula.atom (Atom.atom p (Terms.cons t Terms.nil))
+
+module _ {S : Type 0} where
+  -- the left side above a contraction
+  doubled : (P : Formula S → Type 0) {Θ Γ Λ : List (Formula S)} {B : Formula S} → Θ ≈ (B ∷ Γ) → Λ ≈ (B ∷ B ∷ Γ) → All P Θ → All P Λ
+  doubled P m n h = let k = all-reordered P m h in all-reordered P (Permᴰ·symm n) (k .0, k)
+
+  IsAll : Formula S → Type 0
+  IsAll (Formula.atom a) = ⊥
+  IsAll Formula.top = ⊥
+  IsAll Formula.bottom = ⊥
+  IsAll (Formula.and B C) = ⊥
+  IsAll (Formula.or B C) = ⊥
+  IsAll (Formula.implies B C) = ⊥
+  IsAll (Formula.all s B) = Unit {0}
+  IsAll (Formula.some s B) = ⊥
+
+  IsSome : Formula S → Type 0
+  IsSome (Formula.atom a) = ⊥
+  IsSome Formula.top = ⊥
+  IsSome Formula.bottom = ⊥
+  IsSome (Formula.and B C) = ⊥
+  IsSome (Formula.or B C) = ⊥
+  IsSome (Formula.implies B C) = ⊥
+  IsSome (Formula.all s B) = ⊥
+  IsSome (Formula.some s B) = Unit {0}
+
+  not-both : (B : Formula S) → IsAll B → IsSome B → ⊥
+  unfolding IsAll IsSome
+  not-both (Formula.atom a) l r = l
+  not-both Formula.top l r = l
+  not-both Formula.bottom l r = l
+  not-both (Formula.and B C) l r = l
+  not-both (Formula.or B C) l r = l
+  not-both (Formula.implies B C) l r = l
+  not-both (Formula.all s B) l r = r
+  not-both (Formula.some s B) l r = l
+
+  -- the signature has no term of any sort
+  abbrev pub Barren : Signature S → Type 0
+  Barren Σ = (t : Term) (s : S) → ¬ (Has Σ t s)
+
+  none-from-alls : {Σ : Signature S} {Γ : List (Formula S)} {C : Formula S} (d : Derivation Σ Γ C) → CutFree d → Barren Σ → All IsAll Γ → IsSome C → ⊥
+  unfolding IsAll IsSome
+  none-from-alls (Derivation.id {B = B} q m) c b l r = not-both B (all-reordered IsAll m l .0) r
+  none-from-alls (Derivation.cut q m n D E) c b l r = c .0
+  none-from-alls (Derivation.contr-L q m n D) c b l r = none-from-alls D (c .1) b (doubled IsAll m n l) r
+  none-from-alls (Derivation.weak-L q m D) c b l r = none-from-alls D (c .1) b (all-reordered IsAll m l .1) r
+  none-from-alls (Derivation.bottom-L q m) c b l r = all-reordered IsAll m l .0
+  none-from-alls (Derivation.top-R q) c b l r = r
+  none-from-alls (Derivation.and-L₁ q m n D) c b l r = all-reordered IsAll m l .0
+  none-from-alls (Derivation.and-L₂ q m n D) c b l r = all-reordered IsAll m l .0
+  none-from-alls (Derivation.and-R q D E) c b l r = r
+  none-from-alls (Derivation.or-L q m n k D E) c b l r = all-reordered IsAll m l .0
+  none-from-alls (Derivation.or-R₁ q D) c b l r = r
+  none-from-alls (Derivation.or-R₂ q D) c b l r = r
+  none-from-alls (Derivation.implies-L q m n D E) c b l r = all-reordered IsAll m l .0
+  none-from-alls (Derivation.implies-R q m D) c b l r = r
+  none-from-alls (Derivation.all-L {τ = s} t q m h n D) c b l r = b t s h
+  none-from-alls (Derivation.all-R y q h e D) c b l r = r
+  none-from-alls (Derivation.some-L y q m h n D) c b l r = all-reordered IsAll m l .0
+  none-from-alls (Derivation.some-R {τ = s} t q h e D) c b l r = b t s h
+
+  -- ∀x p(x) → ∃x p(x) over a signature without terms
+  pub no-some-from-all : {Σ : Signature S} (p : Name) (s : S) → Barren Σ → (d : Derivation Σ (Formula.all s (at p (Term.v 0)) ∷ []) (Formula.some s (at p (Term.v 0)))) → ¬ (CutFree d)
+  unfolding IsAll IsSome
+  no-some-from-all p s b d c = none-from-alls d c b (tt, tt) tt
+
+  -- a signature without functions and without parameters has no term
+  pub barren : (predicate : Name → List S → Type 0) → Barren (record { symbols = record { function = λ g ss s. ⊥; predicate = predicate }; parameters = [] })
+  barren predicate (Term.v i) s e = nope e
+  barren predicate (Term.f g ts) s e = e .1
+  barren predicate (Term.e k) s e = List·Memᴰ·not-nil e
+
+-- the parameter that an atom's first argument is
+number : Term → ℕ
+number (Term.v i) = 0
+number (Term.f g ts) = 0
+number (Term.e k) = k
+
+firstNumber : Terms → ℕ
+firstNumber Terms.nil = 0
+firstNumber (Terms.cons t ts) = number t
+
+atomNumber : Atom → ℕ
+atomNumber (Atom.atom p ts) = firstNumber ts
+
+module _ {S : Type 0} (p : Name) (n : ℕ) where
+  -- p(n) on the left; on the right ∀x p(x), or p(y) with another y
+  Given : Formula S → Type 0
+  Given (Formula.atom a) = a ≡ Atom.atom p (Terms.cons (Term.e n) Terms.nil)
+  Given Formula.top = ⊥
+  Given Formula.bottom = ⊥
+  Given (Formula.and B C) = ⊥
+  Given (Formula.or B C) = ⊥
+  Given (Formula.implies B C) = ⊥
+  Given (Formula.all s B) = ⊥
+  Given (Formula.some s B) = ⊥
+
+  Asked : Formula S → Type 0
+  Asked (Formula.atom a) = (y : ℕ) × (¬ (y ≡ n)) × (a ≡ Atom.atom p (Terms.cons (Term.e y) Terms.nil))
+  Asked Formula.top = ⊥
+  Asked Formula.bottom = ⊥
+  Asked (Formula.and B C) = ⊥
+  Asked (Formula.or B C) = ⊥
+  Asked (Formula.implies B C) = ⊥
+  Asked (Formula.all s B) = B ≡ at p (Term.v 0)
+  Asked (Formula.some s B) = ⊥
+
+  given-not-asked : (B : Formula S) → Given B → Asked B → ⊥
+  unfolding Given Asked atomNumber firstNumber number
+  given-not-asked (Formula.atom a) l (y, d, e) = d (ap atomNumber (sym e ∙ l))
+  given-not-asked Formula.top l r = l
+  given-not-asked Formula.bottom l r = l
+  given-not-asked (Formula.and B C) l r = l
+  given-not-asked (Formula.or B C) l r = l
+  given-not-asked (Formula.implies B C) l r = l
+  given-not-asked (Formula.all s B) l r = l
+  given-not-asked (Formula.some s B) l r = l
+
+  -- a fresh parameter is another
+  asked-of-fresh : (Σ : Signature S) {s : S} (y : ℕ) {B D : Formula S} → Declares Σ n s → Fresh Σ y → D ≡ put (Term.e y) B → B ≡ at p (Term.v 0) → Asked D
+  unfolding Asked
+  asked-of-fresh Σ {s} y k f e b =
+      subst Asked (sym (e ∙ ap (put (Term.e y)) b)) (y, λ z. f s (subst (λ (x : ℕ). Declares Σ x s) (sym z) k), refl)
+
+  none-from-one : {Σ : Signature S} {Γ : List (Formula S)} {C : Formula S} {s : S} (d : Derivation Σ Γ C) → CutFree d → Declares Σ n s → All Given Γ → Asked C → ⊥
+  unfolding Given Asked
+  none-from-one (Derivation.id {B = B} q m) c k l r = given-not-asked B (all-reordered Given m l .0) r
+  none-from-one (Derivation.cut q m u D E) c k l r = c .0
+  none-from-one (Derivation.contr-L q m u D) c k l r = none-from-one D (c .1) k (doubled Given m u l) r
+  none-from-one (Derivation.weak-L q m D) c k l r = none-from-one D (c .1) k (all-reordered Given m l .1) r
+  none-from-one (Derivation.bottom-L q m) c k l r = all-reordered Given m l .0
+  none-from-one (Derivation.top-R q) c k l r = r
+  none-from-one (Derivation.and-L₁ q m u D) c k l r = all-reordered Given m l .0
+  none-from-one (Derivation.and-L₂ q m u D) c k l r = all-reordered Given m l .0
+  none-from-one (Derivation.and-R q D E) c k l r = r
+  none-from-one (Derivation.or-L q m u v D E) c k l r = all-reordered Given m l .0
+  none-from-one (Derivation.or-R₁ q D) c k l r = r
+  none-from-one (Derivation.or-R₂ q D) c k l r = r
+  none-from-one (Derivation.implies-L q m u D E) c k l r = all-reordered Given m l .0
+  none-from-one (Derivation.implies-R q m D) c k l r = r
+  none-from-one (Derivation.all-L t q m h u D) c k l r = all-reordered Given m l .0
+  none-from-one (Derivation.all-R {Σ = Σ} y q h e D) c k l r = none-from-one D (c .1) (List·Memᴰ·tail k) l (asked-of-fresh Σ y k h e r)
+  none-from-one (Derivation.some-L y q m h u D) c k l r = all-reordered Given m l .0
+  none-from-one (Derivation.some-R t q h e D) c k l r = r
+
+-- p(e 1) → ∀x p(x) over a signature with parameter 1
+pub no-all-from-one : {S : Type 0} {Σ : Signature S} (p : Name) (s : S) → Declares Σ 1 s → (d : Derivation Σ (at p (Term.e 1) ∷ []) (Formula.all s (at p (Term.v 0)))) → ¬ (CutFree d)
+unfolding Given Asked
+no-all-from-one p s k d c = none-from-one p 1 d c k (refl, tt) refl
