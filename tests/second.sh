@@ -1,5 +1,5 @@
 #!/bin/sh
-# The second program's own tests, and that its cases leave no answer out.
+# The second program's own tests; that its cases leave no answer out; and that the stored cases and answers are those that it makes.
 # Without cargo there is nothing to run: the stored cases and answers are then taken as they stand.
 set -eu
 cd "$(dirname "$0")/../second"
@@ -7,7 +7,16 @@ command -v cargo > /dev/null || { echo 'no cargo here: the second program is not
 cargo test --release --quiet
 cargo build --release --quiet
 second=target/release/second
+
+# The cases in a program's data/ and the answers in its stdout.
+stored() {
+  "$second" "$2-cases" ${3:-} | cmp - "../crates/$1/data/cases"
+  "$second" "$2-answers" < "../crates/$1/data/cases" | cmp - "../crates/$1/stdout"
+}
+
 "$second" carrier-cases | "$second" carrier-counts
 { "$second" packet-cases 1; "$second" packet-cases 2; } | "$second" packet-counts
 { "$second" judge-cases 1; "$second" judge-cases 2; } | "$second" judge-counts
 "$second" search-cases | "$second" search-counts
+
+stored carrier_cases carrier
