@@ -15,3 +15,6 @@ pub mod Deeper
 pub mod Meant
 pub mod ReadLaws
 pub mod Examples
+pub mod NameLaws
+pub mod WordsAtLaws
+pub mod NumeralLaws

@@ -1,7 +1,7 @@
 -- How a decimal number is read digit by digit where it stands in bytes, and where it ends; and what the code's two tests of a digit say.
 use Prim.Native.Nat.{ℕ, zero, suc, _+_, _-_, _*_, _<_, _≤_, min}
 use mathlib.Core.Path.{_≡_, refl, sym, ap, _∙_}
-use mathlib.Core.Bool.{Bool, true, false}
+use mathlib.Core.Bool.{Bool, true, false, _&&_}
 use mathlib.Core.List.{List, [], _∷_}
 use native.Mathlib.Numerals.{add-one}
 use native.Mathlib.Omega.{arith}
@@ -62,11 +62,17 @@ module _ (s : List ℕ) (at : ℕ) where
   unfolding isDigit
   over-end v i r h = over-digit v i r (ap isDigit (List·getD-eq-default s 0 h))
 
--- the code's two tests
+-- the code's two tests of a range, and of a digit
+pub range-tests : (low high c : ℕ) → low ≤ c → leb c high ≡ leb low c && leb c high
+range-tests low high c h = sym (simp (le-leb low c h) refl)
+
+pub range-first : (low high c : ℕ) → c < low → leb low c ≡ leb low c && leb c high
+range-first low high c h = let e : leb low c ≡ false = lt-leb low c h in rw e refl
+
 pub digit-tests : (c : ℕ) → 48 ≤ c → leb c 57 ≡ isDigit c
 unfolding isDigit
-digit-tests c h = sym (simp (le-leb 48 c h) refl)
+digit-tests c h = range-tests 48 57 c h
 
 pub digit-first : (c : ℕ) → c < 48 → leb 48 c ≡ isDigit c
 unfolding isDigit
-digit-first c h = let e : leb 48 c ≡ false = lt-leb 48 c h in rw e refl
+digit-first c h = range-first 48 57 c h

@@ -68,18 +68,22 @@ module _ (s : List ℕ) (at : ℕ) where
         go true t = subst NoDigit (sym (drop-here s i (ltb-true i (length s) t))) (r .over h)
         go false t = subst NoDigit (sym (drop-of-length-le s {i = i} (ltb-false i (length s) t))) tt
 
+    -- a number there that no digit follows is that number, and the same follows
+    pub number-read : (n : ℕ) (k : List ℕ) → NoDigit k → drop at s ≡ decimalOnto n k → (r .digits .worth ≡ n) × (drop i s ≡ k)
+    number-read n k d f = go (ltb 0 (r .digits .worth)) refl
+      where
+        go : (b : Bool) → ltb 0 (r .digits .worth) ≡ b → (r .digits .worth ≡ n) × (drop i s ≡ k)
+        go true t =
+            decimal-once (r .digits .worth) n (drop i s) k (over (ltb-true 0 (r .digits .worth) t)) d (sym (r .digits .reads) ∙ f)
+        go false t =
+            let z : r .digits .worth ≡ 0 = let l = ltb-false 0 (r .digits .worth) t in omega arith in
+            let (e, g) = no-leading-zero n k (drop i s) (sym f ∙ r .digits .reads ∙ ap (λ (x : ℕ). decimalOnto x (drop i s)) z ∙ onto-small 0 (drop i s) (omega arith)) in
+            (z ∙ sym e, sym g)
+
     -- a string there has that number as its length, and its colon follows
     number-once : (n : ℕ) (k : List ℕ) → drop at s ≡ decimalOnto n (58 ∷ k) → (r .digits .worth ≡ n) × (drop i s ≡ 58 ∷ k)
     unfolding isDigit
-    number-once n k f = go (ltb 0 (r .digits .worth)) refl
-      where
-        go : (b : Bool) → ltb 0 (r .digits .worth) ≡ b → (r .digits .worth ≡ n) × (drop i s ≡ 58 ∷ k)
-        go true t =
-            decimal-once (r .digits .worth) n (drop i s) (58 ∷ k) (over (ltb-true 0 (r .digits .worth) t)) refl (sym (r .digits .reads) ∙ f)
-        go false t =
-            let z : r .digits .worth ≡ 0 = let l = ltb-false 0 (r .digits .worth) t in omega arith in
-            let (e, g) = no-leading-zero n (58 ∷ k) (drop i s) (sym f ∙ r .digits .reads ∙ ap (λ (x : ℕ). decimalOnto x (drop i s)) z ∙ onto-small 0 (drop i s) (omega arith)) in
-            (z ∙ sym e, sym g)
+    number-once n k f = number-read n (58 ∷ k) refl f
 
     scan-number : (hints : Bool) (t : Then) (limit : ℕ) (m : Carrier) → scan hints limit (string t) at m (drop at s) ≡ scan hints limit (number t (r .digits .worth)) i m (drop i s)
     scan-number hints t limit m =

@@ -9,4 +9,5 @@ pub mod Text
 pub mod Strings
 pub mod Past
 pub mod Words
+pub mod WordsAt
 pub mod Read
