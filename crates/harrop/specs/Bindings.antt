@@ -1,5 +1,6 @@
 -- What a variable stands for, and what a term or an atom becomes (document 01, "When a strip fits").
 -- A variable bound to parameter k becomes `e` k, one bound to candidate i that candidate's term. A candidate may itself be `e` k: equality is of terms, never of bindings.
+-- Nothing here knows what a quantifier carries: request Twelve touches no line.
 use Prim.Native.Nat.{ℕ, zero, suc, max}
 use mathlib.Core.Bool.{Bool, true, false, _&&_}
 use mathlib.Core.List.{List, [], _∷_}

@@ -90,6 +90,17 @@ table =
     ∷ (Asked.search (bare (Goal.imp (Clause.impD (Goal.imp (Clause.atomD p) (Goal.atom q)) p) (Goal.atom p))) (upTo 32), Answer.found (replicate 33 none))  -- 10
     ∷ []
 
+-- the options in order, where more than one has a proof: left; the lower candidate; the lower clause; `l`; at "all (p and p)" the candidate before `l`; and at a low height the first option that has a proof within it, not the first of all
+abbrev pub options : List (Asked × Answer)
+options =
+    (Asked.search (bare (Goal.or Goal.top Goal.top)) (2 ∷ []), Answer.found (some (Strip.left Strip.top) ∷ []))
+    ∷ (Asked.search (record { rules = []; goal = Goal.some tt Goal.top; terms = p7 ∷ p7 ∷ [] }) (2 ∷ []), Answer.found (some (Strip.some 0 Strip.top) ∷ []))
+    ∷ (Asked.search (record { rules = Clause.atomD q ∷ Clause.atomD p ∷ Clause.atomD p ∷ []; goal = Goal.atom p; terms = [] }) (1 ∷ []), Answer.found (some (Strip.use₀ 1 []) ∷ []))
+    ∷ (Asked.search (record { rules = Clause.andD (Clause.atomD p) (Clause.atomD p) ∷ []; goal = Goal.atom p; terms = [] }) (1 ∷ []), Answer.found (some (Strip.use₀ 0 (Step.l ∷ [])) ∷ []))
+    ∷ (Asked.search (record { rules = Clause.allD tt (Clause.andD (Clause.atomD q) (Clause.atomD p)) ∷ []; goal = Goal.atom p; terms = p7 ∷ p7 ∷ [] }) (1 ∷ []), Answer.found (some (Strip.use₀ 0 (Step.n 0 ∷ Step.r ∷ [])) ∷ []))
+    ∷ (Asked.search (record { rules = Clause.impD (Goal.atom q) p ∷ Clause.atomD p ∷ Clause.atomD q ∷ []; goal = Goal.atom p; terms = [] }) (1 ∷ 2 ∷ []), Answer.found (some (Strip.use₀ 1 []) ∷ some (Strip.use₁ 0 [] (Strip.use₀ 2 [])) ∷ []))
+    ∷ []
+
 abbrev pub answers : List (Asked × Answer) → List Answer
 answers [] = []
 answers (r ∷ rs) = answer (r .0) ∷ answers rs

@@ -1,5 +1,6 @@
 -- The executable twin of Proves: height and nodes of a strip that is a proof at a place, else the first node in file order that does not fit (document 01, "When a strip fits").
--- A position is the list of part numbers from the root; crate `packet` says which byte offset it is.
+-- What it answers is shown in proofs/Judgement. A position is the list of part numbers from the root; crate `packet` says which byte offset it is.
+-- Request Nine touches the line of `imp`.
 use Prim.Native.Nat.{ℕ, suc, _+_, max}
 use mathlib.Core.Bool.{Bool, true, false}
 use mathlib.Core.List.{List, [], _∷_, _++_}

@@ -1,5 +1,5 @@
 -- A place in a proof, which candidates may be used there, and what a path reaches (document 01, "When a strip fits").
--- Request Twelve adds a condition on candidates, `suits`, which holds of every term in the first edition. Request Nine adds a field to AtHand.
+-- Request Twelve gives `suits` its meaning and reads `opened`; in the first edition `suits` holds of every term (`listed`). Request Nine adds a field to AtHand: `atStart` and the record that an `imp` makes (in Proves, Fits, Check and Search) are the places that fill it.
 use Prim.Native.Nat.{ℕ, zero, suc}
 use mathlib.Core.Bool.{Bool, true, false, _&&_}
 use mathlib.Core.List.{List, [], _∷_, _++_}

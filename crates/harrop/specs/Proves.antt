@@ -1,4 +1,6 @@
 -- When a strip is a proof at a place: a family with one constructor for each kind of node (document 01, "When a strip fits").
+-- Whether one node fits, its parts aside, is said in Fits; the two are shown to agree in proofs/Judgement.
+-- Request Nine touches by-imp, the one line that puts a clause at hand. Request Twelve touches no line here: a sort is a Q, and what it asks of a candidate is `suits`.
 use Prim.Native.Nat.{ℕ, suc, _≤_}
 use mathlib.Core.Path.{_≡_}
 use mathlib.Core.Bool.{Bool, true}

@@ -1,5 +1,6 @@
 -- The first proof within a height at a place, by recursion on the height left, the options in document 01's order ("Which strip the search writes").
--- That order is stated by itself in Order.
+-- That order is stated by itself in Order, and the first proof without any search in First; that this function finds that proof is shown in proofs/Finding.
+-- Request Nine touches the line of `imp` (the search has no strip yet and enters no place); request Three touches none, since no strip changes.
 use Prim.Native.Nat.{ℕ, zero, suc, _+_}
 use mathlib.Core.Bool.{Bool, true, false}
 use mathlib.Core.List.{List, [], _∷_, _++_}
