@@ -9,3 +9,4 @@ pub mod Numbers
 pub mod File
 pub mod Key
 pub mod WordAt
+pub mod Spells
