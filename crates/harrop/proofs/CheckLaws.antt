@@ -7,16 +7,15 @@ use mathlib.Core.Option.{Option, none, some, Option·some-injective}
 use native.Mathlib.Omega.{arith}
 use lib.ListN.{length, getElem?}
 use Rattle.basics.specs.Choice.{nope, maybe, _>>=_, bind-some, provided, provided-some}
-use Rattle.harrop.specs.declared.Binding.{Binding}
 use Rattle.harrop.specs.declared.Binding.the-variants.{Candidate, Parameter}
-use Rattle.harrop.specs.Formula.{Term, Atom, Goal, Clause, Step, Strip, height, nodes}
+use Rattle.harrop.specs.Formula.{Atom, Goal, Step, Strip, height, nodes}
 use Rattle.harrop.specs.Bindings.{Bindings, replacedAtom, sameAtom}
 use Rattle.harrop.specs.Place.{Candidates, AtHand, Hand, Place, End, allowed, follow, place}
-use Rattle.harrop.specs.Proves.{May, Reaches, Proves, ProvesAt, by-top, by-use₀}
+use Rattle.harrop.specs.Proves.{Reaches, Proves, ProvesAt, by-top, by-use₀}
 use Rattle.harrop.specs.Views.{asTop, asAtom, asAnd, asOr, asSome, asAll, asImp}
-use Rattle.harrop.specs.Position.{Position, parts, partAt}
-use Rattle.harrop.specs.Fits.{Fits, FitsAt, Fitting, FitsThere, FirstMisfit, EveryNodeFits, fits-top, fits-and, fits-left, fits-right, fits-some, fits-all, fits-imp, fits-use₀, fits-use₁}
-use Rattle.harrop.specs.Check.{Judged, above, aboveBoth, here, headOf, bodyOf, used, check, checkAt}
+use Rattle.harrop.specs.Position.{parts}
+use Rattle.harrop.specs.Fits.{Fits, FitsAt, FirstMisfit, EveryNodeFits, fits-top, fits-and, fits-left, fits-right, fits-some, fits-all, fits-imp, fits-use₀, fits-use₁}
+use Rattle.harrop.specs.Check.{Judged, above, aboveBoth, here, headOf, bodyOf, used, check}
 use Rattle.harrop.proofs.SameLaws.{same-atoms-equal, equal-atoms-same}
 use Rattle.harrop.proofs.ViewLaws.{is-top, is-atom, is-and, is-or, is-some, is-all, is-imp}
 use Rattle.harrop.proofs.PlaceLaws.{allowed-may, may-allowed, follow-reaches, reaches-follow}

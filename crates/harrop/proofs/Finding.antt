@@ -1,10 +1,9 @@
 -- The theorems of this crate on the search: it finds nothing exactly if there is no proof within the height; what it finds is the first proof in document 01's sense, the least in the order stated by itself, and there is only one; what is provable within a height is provable within the next.
-use Prim.Native.Nat.{ℕ, zero, suc, _+_, _≤_}
-use mathlib.Core.Path.{_≡_, refl, sym, _∙_, ap, subst}
+use Prim.Native.Nat.{ℕ, _+_, _≤_}
+use mathlib.Core.Path.{_≡_, refl, _∙_, ap, subst}
 use mathlib.Core.Logic.{_⊎_, inl, inr}
-use mathlib.Core.Option.{Option, none, some, Option·some-injective}
+use mathlib.Core.Option.{Option, none, some}
 use native.Mathlib.Omega.{arith}
-use Rattle.basics.specs.Choice.{nope}
 use Rattle.harrop.specs.Formula.{Strip, height}
 use Rattle.harrop.specs.Place.{Candidates, Place}
 use Rattle.harrop.specs.Proves.{ProvesAt}

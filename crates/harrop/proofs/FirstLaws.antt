@@ -1,19 +1,18 @@
 -- The order is total on the proofs at a place; the first proof in document 01's sense is the least of them within the height; there is only one.
 use Prim.Native.Nat.{ℕ, zero, suc, _≤_}
-use mathlib.Core.Path.{_≡_, refl, sym, _∙_, ap, ap₂, subst}
+use mathlib.Core.Path.{_≡_, refl, sym, ap₂, subst}
 use mathlib.Core.Logic.{_⊎_, inl, inr}
-use mathlib.Core.List.{List, [], _∷_}
+use mathlib.Core.List.{List, _∷_}
 use native.Mathlib.Omega.{arith}
 use Rattle.harrop.specs.Formula.{Strip, height}
 use Rattle.harrop.specs.Place.{Candidates, Place}
-use Rattle.harrop.specs.Proves.{Proves, ProvesAt}
+use Rattle.harrop.specs.Proves.{ProvesAt}
 use Rattle.harrop.specs.Position.{parts}
-use Rattle.harrop.specs.Fits.{FitsAt}
-use Rattle.harrop.specs.Order.{Chosen, chosen, OptionBefore, Earlier, EarlierParts, Compared, by-option, by-parts, this-part, next-part}
-use Rattle.harrop.specs.First.{Within, First, FirstParts, NoneEarlier, first-one, no-parts, more-parts}
+use Rattle.harrop.specs.Order.{chosen, Earlier, EarlierParts, Compared, by-option, by-parts, this-part, next-part}
+use Rattle.harrop.specs.First.{First, FirstParts, first-one, no-parts, more-parts}
 use Rattle.harrop.proofs.FitsLaws.{EachProves, none-left, and-more, proof-split, proof-joined}
 use Rattle.harrop.proofs.HeightLaws.{Low, no-strip-within-0, parts-within, within-parts}
-use Rattle.harrop.proofs.OrderLaws.{Beside, beside, option-before, option-same, option-after, option-not-before-itself, proof-not-before-itself}
+use Rattle.harrop.proofs.OrderLaws.{Beside, beside, option-before, option-same, option-after, option-not-before-itself}
 
 module _ {Q : Type 0} (cs : Candidates Q) where
   parts-compared : {n : ℕ} {places : List (Place Q)} {ps rs : List Strip} → ((pl : Place Q) (P R : Strip) → height P ≤ n → ProvesAt cs pl P → ProvesAt cs pl R → Compared Earlier P R) → Low n ps → EachProves cs places ps → EachProves cs places rs → Compared EarlierParts ps rs

@@ -1,17 +1,14 @@
 -- A strip is a proof exactly if every node fits at its place (document 01, "When a strip fits"); here the one half, and what stands where.
-use Prim.Native.Nat.{ℕ, zero, suc, _+_, max, _<_}
+use Prim.Native.Nat.{ℕ, zero, suc, _<_}
 use mathlib.Core.Path.{_≡_, refl, sym, _∙_, ap, subst}
-use mathlib.Core.List.{List, [], _∷_, _++_}
-use mathlib.Core.Option.{Option, none, some, Option·some-injective}
-use native.Mathlib.Omega.{arith}
-use lib.ListN.{length, getElem?}
-use Rattle.basics.specs.Choice.{nope, _>>=_, bind-some}
-use Rattle.harrop.specs.declared.Binding.{Binding}
-use Rattle.harrop.specs.declared.Binding.the-variants.{Candidate, Parameter}
-use Rattle.harrop.specs.Formula.{Term, Atom, Goal, Clause, Step, Strip, height, nodes}
+use mathlib.Core.List.{List, [], _∷_}
+use mathlib.Core.Option.{some, Option·some-injective}
+use lib.ListN.{getElem?}
+use Rattle.basics.specs.Choice.{nope, bind-some}
+use Rattle.harrop.specs.Formula.{Goal, Strip}
 use Rattle.harrop.specs.Bindings.{Bindings}
-use Rattle.harrop.specs.Place.{Candidates, AtHand, Hand, Place, End, place}
-use Rattle.harrop.specs.Proves.{May, Reaches, Proves, ProvesAt, by-top, by-and, by-left, by-right, by-some, by-all, by-imp, by-use₀, by-use₁}
+use Rattle.harrop.specs.Place.{Candidates, Hand, Place, End, place}
+use Rattle.harrop.specs.Proves.{Proves, ProvesAt, by-top, by-and, by-left, by-right, by-some, by-all, by-imp, by-use₀, by-use₁}
 use Rattle.harrop.specs.Position.{Position, parts, partAt, Before, node-first, earlier-part, same-part}
 use Rattle.harrop.proofs.PlaceLaws.{same-end}
 use Rattle.harrop.proofs.PositionLaws.{root-comes-first}

@@ -1,22 +1,20 @@
 -- What the search finds is the first proof in document 01's sense.
 use Prim.Native.Nat.{ℕ, zero, suc, _+_, _≤_, _<_}
-use mathlib.Core.Path.{_≡_, refl, sym, _∙_, ap, subst}
-use mathlib.Core.Bool.{Bool, true, false}
+use mathlib.Core.Path.{_≡_, refl, sym, _∙_, subst}
 use mathlib.Core.List.{List, [], _∷_, _++_}
 use mathlib.Core.Option.{Option, none, some, Option·some-injective}
 use native.Mathlib.Omega.{arith}
 use lib.ListN.{length, getElem?}
 use Rattle.basics.specs.Choice.{nope, _>>=_, bind-some}
-use Rattle.harrop.specs.declared.Binding.{Binding}
 use Rattle.harrop.specs.declared.Binding.the-variants.{Candidate, Parameter}
-use Rattle.harrop.specs.Formula.{Term, Atom, Goal, Clause, Step, Strip, height}
+use Rattle.harrop.specs.Formula.{Atom, Goal, Step, Strip, height}
 use Rattle.harrop.specs.Bindings.{Bindings, replacedAtom, sameAtom}
-use Rattle.harrop.specs.Place.{Candidates, AtHand, Hand, Place, End, place}
-use Rattle.harrop.specs.Proves.{May, Reaches, Proves, by-top, by-and, by-left, by-right, by-some, by-all, by-imp, by-use₀, by-use₁}
+use Rattle.harrop.specs.Place.{Candidates, AtHand, Hand, End, place}
+use Rattle.harrop.specs.Proves.{May, Reaches, Proves, by-left, by-right, by-some, by-use₀, by-use₁}
 use Rattle.harrop.specs.Fits.{fits-top, fits-and, fits-left, fits-right, fits-some, fits-all, fits-imp, fits-use₀, fits-use₁}
-use Rattle.harrop.specs.Search.{firstFrom, firstCandidate, firstPath, atEnd, first}
+use Rattle.harrop.specs.Search.{firstPath, first}
 use Rattle.harrop.specs.Order.{Chosen, chosen, PathBefore, OptionBefore, left-right, by-candidate, by-clause, by-path}
-use Rattle.harrop.specs.First.{First, NoneEarlier, first-one, no-parts, more-parts}
+use Rattle.harrop.specs.First.{First, first-one, no-parts, more-parts}
 use Rattle.harrop.proofs.SameLaws.{same-atoms-equal}
 use Rattle.harrop.proofs.OrderLaws.{option-not-before-itself}
 use Rattle.harrop.proofs.SearchLaws.{from-some, tested, dressed-some, dressed-none, candidate-some, path-some, path-none}

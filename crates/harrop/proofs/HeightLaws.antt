@@ -1,5 +1,5 @@
 -- A node is one higher than the highest of its parts: what that says of the parts within a height.
-use Prim.Native.Nat.{ℕ, zero, suc, _≤_, max}
+use Prim.Native.Nat.{ℕ, suc, _≤_}
 use mathlib.Core.List.{List, [], _∷_}
 use native.Mathlib.Omega.{arith}
 use Rattle.harrop.specs.Formula.{Strip, height}

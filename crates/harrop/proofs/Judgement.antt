@@ -1,14 +1,12 @@
 -- The first two theorems of this crate: the executable twin answers height and nodes exactly if the strip is a proof, and they are the strip's own; otherwise it names the first node in file order that does not fit; and whether a strip is a proof is decidable.
 use Prim.Native.Nat.{ℕ}
 use mathlib.Core.Path.{_≡_, refl, sym, _∙_, ap, ap₂, subst}
-use mathlib.Core.List.{List, [], _∷_}
-use mathlib.Core.Option.{Option, none, some}
 use native.Mathlib.Omega.{arith}
 use Rattle.harrop.specs.Formula.{Strip, height, nodes}
 use Rattle.harrop.specs.Place.{Candidates, Place}
 use Rattle.harrop.specs.Proves.{ProvesAt}
-use Rattle.harrop.specs.Position.{Position, parts, partAt, Before}
-use Rattle.harrop.specs.Fits.{Stands, Fitting, FitsThere, FirstMisfit, EveryNodeFits}
+use Rattle.harrop.specs.Position.{Position, Before}
+use Rattle.harrop.specs.Fits.{Fitting, FirstMisfit, EveryNodeFits}
 use Rattle.harrop.specs.Order.{Compared}
 use Rattle.harrop.specs.Check.{Judged, checkAt}
 use Rattle.harrop.proofs.PositionLaws.{positions-compared}

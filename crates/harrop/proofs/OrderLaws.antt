@@ -1,13 +1,12 @@
 -- The order on the proofs at a place, by itself: nothing is before itself, and of two options of one place one is before the other or they are the same.
-use Prim.Native.Nat.{ℕ, zero, suc, _<_}
+use Prim.Native.Nat.{ℕ, _<_}
 use mathlib.Core.Path.{_≡_, refl, sym, _∙_, ap, ap₂, subst}
 use mathlib.Core.List.{List, [], _∷_}
-use mathlib.Core.Option.{Option, none, some, Option·some-injective}
+use mathlib.Core.Option.{some, Option·some-injective}
 use native.Mathlib.Omega.{arith}
 use lib.ListN.{getElem?}
-use Rattle.harrop.specs.declared.Binding.{Binding}
-use Rattle.harrop.specs.declared.Binding.the-variants.{Candidate, Parameter}
-use Rattle.harrop.specs.Formula.{Term, Atom, Goal, Clause, Step, Strip}
+use Rattle.harrop.specs.declared.Binding.the-variants.{Candidate}
+use Rattle.harrop.specs.Formula.{Atom, Goal, Clause, Step, Strip}
 use Rattle.harrop.specs.Bindings.{Bindings}
 use Rattle.harrop.specs.Place.{Candidates, AtHand, Hand, Place, End, place}
 use Rattle.harrop.specs.Proves.{Reaches, at-atom, at-imp, by-number, by-l, by-r}

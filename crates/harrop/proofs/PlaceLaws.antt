@@ -1,18 +1,17 @@
 -- The tests of Place are the families of Proves: which candidates may be used, and what a path reaches.
-use Prim.Native.Nat.{ℕ, zero, suc, _≤_, _<_}
-use mathlib.Core.Path.{_≡_, refl, sym, _∙_, ap, subst}
+use Prim.Native.Nat.{ℕ, _<_}
+use mathlib.Core.Path.{_≡_, refl, sym, _∙_, subst}
 use mathlib.Core.Bool.{Bool, true, false, _&&_, false≢true}
 use mathlib.Core.List.{List, [], _∷_}
 use mathlib.Core.Option.{Option, none, some, Option·some-injective}
 use lib.Dec.{leb}
 use lib.ListN.{length, getElem?}
 use borrow.Author.Tests.{leb-true, le-leb}
-use Rattle.basics.specs.Choice.{nope, both-true, provided, provided-some}
-use Rattle.harrop.specs.declared.Binding.{Binding}
-use Rattle.harrop.specs.declared.Binding.the-variants.{Candidate, Parameter}
-use Rattle.harrop.specs.Formula.{Term, Atom, Goal, Clause, Step}
+use Rattle.basics.specs.Choice.{nope, both-true, provided-some}
+use Rattle.harrop.specs.declared.Binding.the-variants.{Candidate}
+use Rattle.harrop.specs.Formula.{Term, Clause, Step}
 use Rattle.harrop.specs.Bindings.{Bindings, highest}
-use Rattle.harrop.specs.Place.{Candidates, AtHand, Hand, End, ends, allowed, follow}
+use Rattle.harrop.specs.Place.{Candidates, AtHand, Hand, End, allowed, follow}
 use Rattle.harrop.specs.Proves.{May, Reaches, at-atom, at-imp, by-number, by-l, by-r}
 use Rattle.harrop.proofs.ListLaws.{member-below}
 

@@ -1,7 +1,7 @@
 -- File order is a total order on positions, and the root comes first.
-use Prim.Native.Nat.{ℕ, zero, suc, _<_}
-use mathlib.Core.Path.{_≡_, refl, ap}
-use mathlib.Core.List.{List, [], _∷_}
+use Prim.Native.Nat.{ℕ, _<_}
+use mathlib.Core.Path.{_≡_, refl}
+use mathlib.Core.List.{[], _∷_}
 use native.Mathlib.Omega.{arith}
 use Rattle.harrop.specs.Position.{Position, Before, node-first, earlier-part, same-part}
 use Rattle.harrop.specs.Order.{Compared}

@@ -1,19 +1,18 @@
 -- What the pieces of the search answer: the first number, candidate and path that answers, and that none does.
 use Prim.Native.Nat.{ℕ, zero, suc, _+_, _≤_, _<_}
-use mathlib.Core.Path.{_≡_, refl, sym, _∙_, ap, subst}
+use mathlib.Core.Path.{_≡_, refl, sym, _∙_, ap}
 use mathlib.Core.Bool.{Bool, true, false}
 use mathlib.Core.List.{List, [], _∷_}
 use mathlib.Core.Option.{Option, none, some, Option·some-injective}
 use native.Mathlib.Omega.{arith}
 use lib.Dec.{ltb}
-use lib.ListN.{length, getElem?}
+use lib.ListN.{length}
 use borrow.Author.Tests.{ltb-true, ltb-false}
 use Rattle.basics.specs.Choice.{nope, _>>=_, bind-some}
-use Rattle.harrop.specs.declared.Binding.{Binding}
-use Rattle.harrop.specs.declared.Binding.the-variants.{Candidate, Parameter}
-use Rattle.harrop.specs.Formula.{Term, Atom, Goal, Clause, Step, Strip}
+use Rattle.harrop.specs.declared.Binding.the-variants.{Candidate}
+use Rattle.harrop.specs.Formula.{Clause, Step}
 use Rattle.harrop.specs.Bindings.{Bindings}
-use Rattle.harrop.specs.Place.{Candidates, End, allowed, follow}
+use Rattle.harrop.specs.Place.{Candidates, End, allowed}
 use Rattle.harrop.specs.Proves.{May, Reaches, at-atom, at-imp, by-number, by-l, by-r}
 use Rattle.harrop.specs.Order.{PathBefore, l-r, lower, this-step, next-step}
 use Rattle.harrop.specs.Search.{firstFrom, firstCandidate, firstPath}

@@ -1,23 +1,21 @@
 -- Where the search finds nothing there is no proof within the height.
-use Prim.Native.Nat.{ℕ, zero, suc, _+_, _≤_, _<_, max}
-use mathlib.Core.Path.{_≡_, refl, sym, _∙_, ap, subst}
-use mathlib.Core.Bool.{Bool, true, false}
+use Prim.Native.Nat.{ℕ, zero, suc, _+_, _≤_}
+use mathlib.Core.Path.{_≡_, refl, sym}
 use mathlib.Core.List.{List, [], _∷_, _++_}
-use mathlib.Core.Option.{Option, none, some, Option·some-injective}
+use mathlib.Core.Option.{Option, none, some}
 use native.Mathlib.Omega.{arith}
 use lib.ListN.{length, getElem?}
-use Rattle.basics.specs.Choice.{nope, _>>=_, bind-some}
-use Rattle.harrop.specs.declared.Binding.{Binding}
+use Rattle.basics.specs.Choice.{nope, _>>=_}
 use Rattle.harrop.specs.declared.Binding.the-variants.{Candidate, Parameter}
-use Rattle.harrop.specs.Formula.{Term, Atom, Goal, Clause, Step, Strip, height}
-use Rattle.harrop.specs.Bindings.{Bindings, replacedAtom, sameAtom}
+use Rattle.harrop.specs.Formula.{Atom, Goal, Step, Strip, height}
+use Rattle.harrop.specs.Bindings.{Bindings, replacedAtom}
 use Rattle.harrop.specs.Place.{Candidates, AtHand, Hand, End}
-use Rattle.harrop.specs.Proves.{May, Reaches, Proves, by-top, by-and, by-left, by-right, by-some, by-all, by-imp, by-use₀, by-use₁}
-use Rattle.harrop.specs.Search.{firstFrom, firstCandidate, firstPath, atEnd, first}
+use Rattle.harrop.specs.Proves.{Reaches, Proves, by-top, by-and, by-left, by-right, by-some, by-all, by-imp, by-use₀, by-use₁}
+use Rattle.harrop.specs.Search.{firstPath, atEnd, first}
 use Rattle.harrop.proofs.SameLaws.{equal-atoms-same}
 use Rattle.harrop.proofs.ListLaws.{member-below}
 use Rattle.harrop.proofs.HeightLaws.{no-strip-within-0}
-use Rattle.harrop.proofs.SearchLaws.{from-none, neither, dressed-none, candidate-none, path-none}
+use Rattle.harrop.proofs.SearchLaws.{from-none, dressed-none, candidate-none, path-none}
 
 both-none : {A B C : Type 0} (f : A → B → C) (o : Option A) (o₁ : Option B) → (o >>= λ a. o₁ >>= λ b. some (f a b)) ≡ none → (o ≡ none → ⊥) → o₁ ≡ none
 both-none f none o₁ e n = absurd (n refl)

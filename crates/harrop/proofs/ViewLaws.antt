@@ -1,6 +1,6 @@
 -- Each view of a goal answers only of a goal with that word (Views). One principle takes a goal apart; each view's law is one line.
 use mathlib.Core.Path.{_≡_, refl, ap}
-use mathlib.Core.Option.{Option, none, some, Option·some-injective}
+use mathlib.Core.Option.{Option, some, Option·some-injective}
 use Rattle.basics.specs.Choice.{nope}
 use Rattle.harrop.specs.Formula.{Atom, Goal, Clause}
 use Rattle.harrop.specs.Views.{asTop, asAtom, asAnd, asOr, asSome, asAll, asImp}

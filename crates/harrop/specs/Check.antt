@@ -2,16 +2,15 @@
 -- What it answers is shown in proofs/Judgement. A position is the list of part numbers from the root; crate `packet` says which byte offset it is.
 -- Request Nine touches the line of `imp`.
 use Prim.Native.Nat.{ℕ, suc, _+_, max}
-use mathlib.Core.Bool.{Bool, true, false}
+use mathlib.Core.Bool.{true, false}
 use mathlib.Core.List.{List, [], _∷_, _++_}
 use mathlib.Core.Option.{Option, none, some}
 use lib.ListN.{length, getElem?}
-use Rattle.basics.specs.Choice.{_>>=_, provided, choose, maybe}
-use Rattle.harrop.specs.declared.Binding.{Binding}
+use Rattle.basics.specs.Choice.{_>>=_, provided, maybe}
 use Rattle.harrop.specs.declared.Binding.the-variants.{Candidate, Parameter}
-use Rattle.harrop.specs.Formula.{Term, Atom, Goal, Clause, Step, Strip}
+use Rattle.harrop.specs.Formula.{Atom, Goal, Step, Strip}
 use Rattle.harrop.specs.Bindings.{Bindings, replacedAtom, sameAtom}
-use Rattle.harrop.specs.Place.{Candidates, AtHand, Hand, Place, End, allowed, follow}
+use Rattle.harrop.specs.Place.{Candidates, Hand, Place, End, allowed, follow}
 pub use Rattle.harrop.specs.Position.{Position}
 use Rattle.harrop.specs.Views.{asTop, asAtom, asAnd, asOr, asSome, asAll, asImp}
 

@@ -4,11 +4,10 @@
 use Prim.Native.Nat.{ℕ, suc}
 use mathlib.Core.Path.{_≡_}
 use mathlib.Core.List.{List, [], _∷_, _++_}
-use mathlib.Core.Option.{Option, none, some}
+use mathlib.Core.Option.{some}
 use lib.ListN.{length, getElem?}
-use Rattle.harrop.specs.declared.Binding.{Binding}
 use Rattle.harrop.specs.declared.Binding.the-variants.{Candidate, Parameter}
-use Rattle.harrop.specs.Formula.{Term, Atom, Goal, Clause, Step, Strip}
+use Rattle.harrop.specs.Formula.{Atom, Goal, Clause, Step, Strip}
 use Rattle.harrop.specs.Bindings.{Bindings, replacedAtom}
 use Rattle.harrop.specs.Place.{Candidates, AtHand, Hand, Place, End, place}
 use Rattle.harrop.specs.Proves.{May, Reaches}

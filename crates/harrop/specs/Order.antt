@@ -2,7 +2,7 @@
 -- Options: `left` before `right`; candidates by number; for an atom, clauses by number, then paths compared step by step, `l` before `r`, lower number first. Where two proofs take the same option, their parts decide, the first part first.
 use Prim.Native.Nat.{ℕ, _<_}
 use mathlib.Core.Path.{_≡_}
-use mathlib.Core.List.{List, [], _∷_}
+use mathlib.Core.List.{List, _∷_}
 use Rattle.harrop.specs.Formula.{Step, Strip}
 use Rattle.harrop.specs.Position.{parts}
 

@@ -1,14 +1,13 @@
 -- A place in a proof, which candidates may be used there, and what a path reaches (document 01, "When a strip fits").
 -- Request Twelve gives `suits` its meaning and reads `opened`; in the first edition `suits` holds of every term (`listed`). Request Nine adds a field to AtHand: `atStart` and the record that an `imp` makes (in Proves, Fits, Check and Search) are the places that fill it.
-use Prim.Native.Nat.{ℕ, zero, suc}
+use Prim.Native.Nat.{ℕ}
 use mathlib.Core.Bool.{Bool, true, false, _&&_}
-use mathlib.Core.List.{List, [], _∷_, _++_}
+use mathlib.Core.List.{List, [], _∷_}
 use mathlib.Core.Option.{Option, none, some}
 use lib.Dec.{leb}
 use lib.ListN.{length, getElem?}
 use Rattle.basics.specs.Choice.{provided}
-use Rattle.harrop.specs.declared.Binding.{Binding}
-use Rattle.harrop.specs.declared.Binding.the-variants.{Candidate, Parameter}
+use Rattle.harrop.specs.declared.Binding.the-variants.{Candidate}
 use Rattle.harrop.specs.Formula.{Term, Atom, Goal, Clause, Step}
 use Rattle.harrop.specs.Bindings.{Bindings, highest}
 

@@ -2,10 +2,10 @@
 -- A position is the list of part numbers from the root. Which byte offset it is, and that file order is the order of offsets, is said in crate `packet`.
 use Prim.Native.Nat.{ℕ, _<_}
 use mathlib.Core.List.{List, [], _∷_}
-use mathlib.Core.Option.{Option, none, some}
+use mathlib.Core.Option.{Option, some}
 use lib.ListN.{getElem?}
 use Rattle.basics.specs.Choice.{_>>=_}
-use Rattle.harrop.specs.Formula.{Step, Strip}
+use Rattle.harrop.specs.Formula.{Strip}
 
 abbrev pub Position : Type 0
 Position = List ℕ

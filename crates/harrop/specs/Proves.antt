@@ -3,11 +3,10 @@
 -- Request Nine touches by-imp, the one line that puts a clause at hand. Request Twelve touches no line here: a sort is a Q, and what it asks of a candidate is `suits`.
 use Prim.Native.Nat.{ℕ, suc, _≤_}
 use mathlib.Core.Path.{_≡_}
-use mathlib.Core.Bool.{Bool, true}
+use mathlib.Core.Bool.{true}
 use mathlib.Core.List.{List, [], _∷_, _++_}
-use mathlib.Core.Option.{Option, none, some}
+use mathlib.Core.Option.{some}
 use lib.ListN.{length, getElem?}
-use Rattle.harrop.specs.declared.Binding.{Binding}
 use Rattle.harrop.specs.declared.Binding.the-variants.{Candidate, Parameter}
 use Rattle.harrop.specs.Formula.{Term, Atom, Goal, Clause, Step, Strip}
 use Rattle.harrop.specs.Bindings.{Bindings, highest, replacedAtom}

@@ -2,16 +2,15 @@
 -- That order is stated by itself in Order, and the first proof without any search in First; that this function finds that proof is shown in proofs/Finding.
 -- Request Nine touches the line of `imp` (the search has no strip yet and enters no place); request Three touches none, since no strip changes.
 use Prim.Native.Nat.{ℕ, zero, suc, _+_}
-use mathlib.Core.Bool.{Bool, true, false}
+use mathlib.Core.Bool.{true, false}
 use mathlib.Core.List.{List, [], _∷_, _++_}
 use mathlib.Core.Option.{Option, none, some}
 use lib.ListN.{length, getElem?}
 use Rattle.basics.specs.Choice.{_>>=_}
-use Rattle.harrop.specs.declared.Binding.{Binding}
 use Rattle.harrop.specs.declared.Binding.the-variants.{Candidate, Parameter}
-use Rattle.harrop.specs.Formula.{Term, Atom, Goal, Clause, Step, Strip}
+use Rattle.harrop.specs.Formula.{Atom, Goal, Clause, Step, Strip}
 use Rattle.harrop.specs.Bindings.{Bindings, replacedAtom, sameAtom}
-use Rattle.harrop.specs.Place.{Candidates, AtHand, Hand, Place, End, allowed}
+use Rattle.harrop.specs.Place.{Candidates, Hand, Place, End, allowed}
 
 -- the first answer at i, i + 1, .., n of them
 abbrev pub firstFrom : {B : Type 0} → (ℕ → Option B) → ℕ → ℕ → Option B
