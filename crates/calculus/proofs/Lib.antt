@@ -9,3 +9,6 @@ pub mod DeriveUniform
 pub mod PacketLaws
 pub mod RootDerived
 pub mod Unreached
+pub mod Table
+pub mod PacketB
+pub mod NotUniform

@@ -12,7 +12,7 @@ use Rattle.harrop.specs.Bindings.{highest, highests, nothing}
 use Rattle.harrop.specs.Place.{Plain, listed}
 use Rattle.calculus.specs.Formula.{Formula}
 use Rattle.calculus.specs.Multiset.{All}
-use Rattle.calculus.specs.Signature.{Declares, HasSort, HaveSorts, Has, FormulaOver, Over}
+use Rattle.calculus.specs.Signature.{HasSort, HaveSorts, Has, FormulaOver, Over}
 use Rattle.calculus.specs.Translation.{parametersOf, signatureAt}
 use Rattle.calculus.specs.Apt.{Apt}
 use Rattle.calculus.specs.Packet.{Symbol, count, functionsIn, functionsInAll, ofAtoms, atomFunctions, atomPredicates, ofEach, formulasOf, plain, packetFunctions, packetPredicates, packetSymbols, packetSignature, Within, AllWithin, FormulaWithin, Candid, Fair}
@@ -45,18 +45,18 @@ variable-has [] i s h = absurd (omega arith)
 variable-has (v ∷ vs) zero s h = refl
 variable-has (v ∷ vs) (suc i) s h = variable-has vs i s (omega arith)
 
-module _ (F G : Symbol → Type 0) (o : List Plain) (P : ℕ → Type 0) (h : (k : ℕ) → P k → (s : Plain) → Declares (signatureAt (plain F G) o) k s) where
+module _ (F G : Symbol → Type 0) (ps : List (ℕ × Plain)) (P : ℕ → Type 0) (h : (k : ℕ) → P k → (s : Plain) → List·Memᴰ (k, s) ps) where
   mutual
-    plain-has : (vs : List Plain) (t : Term) (s : Plain) → Within P (length vs) t → Among (functionsIn t) F → HasSort (signatureAt (plain F G) o) vs t s
+    plain-has : (vs : List Plain) (t : Term) (s : Plain) → Within P (length vs) t → Among (functionsIn t) F → HasSort (record { symbols = plain F G; parameters = ps }) vs t s
     plain-has vs (Term.v i) s w m = variable-has vs i s w
     plain-has vs (Term.f g ts) s w m = (sortsFor ts, counted F g ts (m (g, count ts) (List·Memᴰ·head refl)), plain-have vs ts w (λ x n. m x (List·Memᴰ·tail n)))
     plain-has vs (Term.e k) s w m = h k w s
 
-    plain-have : (vs : List Plain) (ts : Terms) → AllWithin P (length vs) ts → Among (functionsInAll ts) F → HaveSorts (signatureAt (plain F G) o) vs ts (sortsFor ts)
+    plain-have : (vs : List Plain) (ts : Terms) → AllWithin P (length vs) ts → Among (functionsInAll ts) F → HaveSorts (record { symbols = plain F G; parameters = ps }) vs ts (sortsFor ts)
     plain-have vs Terms.nil w m = tt
     plain-have vs (Terms.cons t ts) w m = (plain-has vs t tt (w .0) (among-first (functionsIn t) (functionsInAll ts) m), plain-have vs ts (w .1) (among-second (functionsIn t) (functionsInAll ts) m))
 
-  plain-over : (vs : List Plain) (B : Formula Plain) → FormulaWithin P (length vs) B → Among (ofAtoms atomFunctions B) F → Among (ofAtoms atomPredicates B) G → FormulaOver (signatureAt (plain F G) o) vs B
+  plain-over : (vs : List Plain) (B : Formula Plain) → FormulaWithin P (length vs) B → Among (ofAtoms atomFunctions B) F → Among (ofAtoms atomPredicates B) G → FormulaOver (record { symbols = plain F G; parameters = ps }) vs B
   plain-over vs (Formula.atom (Atom.atom p ts)) w m n = (sortsFor ts, counted G p ts (n (p, count ts) (List·Memᴰ·head refl)), plain-have vs ts w m)
   plain-over vs Formula.top w m n = tt
   plain-over vs Formula.bottom w m n = tt
@@ -69,7 +69,7 @@ module _ (F G : Symbol → Type 0) (o : List Plain) (P : ℕ → Type 0) (h : (k
   plain-over vs (Formula.all s B) w m n = plain-over (s ∷ vs) B w m n
   plain-over vs (Formula.some s B) w m n = plain-over (s ∷ vs) B w m n
 
-  all-plain-over : (L : List (Formula Plain)) → All (FormulaWithin P 0) L → Among (ofEach (ofAtoms atomFunctions) L) F → Among (ofEach (ofAtoms atomPredicates) L) G → All (Over (signatureAt (plain F G) o)) L
+  pub all-plain-over : (L : List (Formula Plain)) → All (FormulaWithin P 0) L → Among (ofEach (ofAtoms atomFunctions) L) F → Among (ofEach (ofAtoms atomPredicates) L) G → All (Over (record { symbols = plain F G; parameters = ps })) L
   all-plain-over [] w m n = tt
   all-plain-over (B ∷ L) w m n =
       (plain-over [] B (w .0) (among-first (ofAtoms atomFunctions B) (ofEach (ofAtoms atomFunctions) L) m) (among-first (ofAtoms atomPredicates B) (ofEach (ofAtoms atomPredicates) L) n), all-plain-over L (w .1) (among-second (ofAtoms atomFunctions B) (ofEach (ofAtoms atomFunctions) L) m) (among-second (ofAtoms atomPredicates B) (ofEach (ofAtoms atomPredicates) L) n))
@@ -85,7 +85,7 @@ mutual
   all-bounded p Terms.nil w l = tt
   all-bounded p (Terms.cons t ts) w l = (bounded p t (w .0) (omega arith), all-bounded p ts (w .1) (omega arith))
 
-open-is-declared : (o : List Plain) (k : ℕ) (s : Plain) → 1 ≤ k → k ≤ length o → List·Memᴰ (k, s) (parametersOf o)
+pub open-is-declared : (o : List Plain) (k : ℕ) (s : Plain) → 1 ≤ k → k ≤ length o → List·Memᴰ (k, s) (parametersOf o)
 open-is-declared [] k s l u = absurd (omega arith)
 open-is-declared (q ∷ o) k s l u = go (λ h. open-is-declared o k s l h) (ℕ-discrete k (suc (length o)))
   where
@@ -109,7 +109,7 @@ packet-apt ds g ts f o s i m = subst (λ (x : Option Term). Has (signatureAt (pa
     here : Has (signatureAt (packetSymbols ds g ts) o) (m .term) s
     here =
         let (c, h) = listed-candid ts i (m .term) (f .candid) (m .isListed) in
-        plain-has (λ x. List·Memᴰ x (packetFunctions ds g ts)) (λ x. List·Memᴰ x (packetPredicates ds g)) o (λ k. (1 ≤ k) × (k ≤ length o)) (λ k b r. open-is-declared o k r (b .0) (b .1))
+        plain-has (λ x. List·Memᴰ x (packetFunctions ds g ts)) (λ x. List·Memᴰ x (packetPredicates ds g)) (parametersOf o) (λ k. (1 ≤ k) × (k ≤ length o)) (λ k b r. open-is-declared o k r (b .0) (b .1))
         [] (m .term) s (bounded (length o) (m .term) c (m .isOpen)) (λ x n. Memᴰ·append-left rest (h x n))
 
 -- the formulas of a fair packet are over its signature

@@ -29,7 +29,7 @@ rules-stand ts [] c = List·Permᴰ·nil
 rules-stand ts (d ∷ ds) c = List·Permᴰ·cons (stands ts (clauseFormula d) (c .0)) (rules-stand ts ds (c .1))
 
 module _ (ds : List (Clause Plain)) (g : Goal Plain) (ts : List Term) (f : Fair ds g ts) where
-  root-typed : WellTyped (sequentAt ts (packetSymbols ds g ts) (root ds g))
+  pub root-typed : WellTyped (sequentAt ts (packetSymbols ds g ts) (root ds g))
   root-typed = record {
     left = all-reordered (Over (packetSignature ds g ts)) (Permᴰ·symm (rules-stand ts ds (f .closed .1))) (packet-over ds g ts f .1);
     right = subst (Over (packetSignature ds g ts)) (sym (stands ts (goalFormula g) (f .closed .0))) (packet-over ds g ts f .0);

@@ -25,14 +25,14 @@ abbrev pub either : {S : Type 0} → Formula S → Formula S → Formula S
 either P R = Formula.or (Formula.implies P R) P
 
 -- ½ for p, 0 for every other predicate
-half : Name → Name → ℕ
+pub half : Name → Name → ℕ
 half p r = choose (sameName r p) 1 0
 
-half-itself : (p : Name) → half p p ≡ 1
+pub half-itself : (p : Name) → half p p ≡ 1
 unfolding half
 half-itself p = ap (λ (b : Bool). choose b 1 0) (name-same p)
 
-half-other : (p r : Name) → ¬ (p ≡ r) → half p r ≡ 0
+pub half-other : (p r : Name) → ¬ (p ≡ r) → half p r ≡ 0
 unfolding half
 half-other p r d = go (sameName r p) refl
   where

@@ -38,7 +38,7 @@ upTo (suc n) = suc n ∷ upTo n
 abbrev of : Name → Term → Atom
 of g t = Atom.atom g (Terms.cons t Terms.nil)
 
-abbrev p7 : Term
+abbrev pub p7 : Term
 p7 = Term.f (octets "p7") Terms.nil
 
 abbrev p : Atom
@@ -52,7 +52,7 @@ abbrev eq : ℕ → ℕ → Atom
 eq i j = Atom.atom (octets "eq") (Terms.cons (Term.v i) (Terms.cons (Term.v j) Terms.nil))
 
 -- base packet B, and its strip
-abbrev B : Packet
+abbrev pub B : Packet
 B =
     record {
       rules = Clause.allD tt (Clause.impD (Goal.atom (of (octets "shut") (Term.v 0))) (of (octets "dry") (Term.v 0))) ∷ [];
@@ -60,7 +60,7 @@ B =
       terms = p7 ∷ [];
     }
 
-abbrev stripB : ℕ → Strip
+abbrev pub stripB : ℕ → Strip
 stripB k = Strip.imp (Strip.use₁ 0 (Step.n 0 ∷ []) (Strip.use₀ k []))
 
 -- no rules and no terms

@@ -1,0 +1,131 @@
+-- A derivation for every rule of Figure 1, over the signature of one sort with all symbols, and packet B's (document 01, "Strips to try").
+-- With Underivable and Unreached: Figure 1 is neither weakened nor strengthened here.
+use Prim.Native.Nat.{ℕ}
+use mathlib.Core.Path.{_≡_, refl, ap}
+use mathlib.Core.List.{List, [], _∷_, List·Memᴰ, List·Memᴰ·head, List·Memᴰ·not-nil, List·Permᴰ·swap, Permᴰ·refl}
+use native.Mathlib.Omega.{arith}
+use Rattle.basics.specs.Text.{octets}
+use Rattle.harrop.specs.Formula.{Term, Terms}
+use Rattle.harrop.specs.Place.{Plain}
+use Rattle.calculus.specs.Formula.{Formula}
+use Rattle.calculus.specs.Multiset.{_≈_, All}
+use Rattle.calculus.specs.Signature.{Signature, Fresh, IsSequent}
+use Rattle.calculus.specs.Derivation.{Derivation}
+use Rattle.calculus.specs.Uniform.{Rule, rulesIn}
+use Rattle.calculus.specs.Packet.{plain, FormulaWithin}
+use Rattle.calculus.proofs.PacketLaws.{all-plain-over}
+use Rattle.calculus.proofs.Underivable.{of}
+use Rattle.calculus.proofs.Unreached.{at}
+
+-- all symbols, and these parameters
+abbrev pub everything : List (ℕ × Plain) → Signature Plain
+everything ps = record { symbols = plain (λ x. Unit {0}) (λ x. Unit {0}); parameters = ps }
+
+-- over it, a formula is one that has no free variable and no other parameter
+typed : (ps : List (ℕ × Plain)) (P : ℕ → Type 0) → ((k : ℕ) → P k → (s : Plain) → List·Memᴰ (k, s) ps) → (Γ : List (Formula Plain)) (C : Formula Plain) → All (FormulaWithin P 0) (C ∷ Γ) → IsSequent (everything ps) Γ C
+typed ps P h Γ C w =
+    let r = all-plain-over (λ x. Unit {0}) (λ x. Unit {0}) ps P h (C ∷ Γ) w (λ x m. tt) (λ x m. tt) in
+    record { left = r .1; right = r .0 }
+
+-- with no parameter, and with parameter 7
+closed : (Γ : List (Formula Plain)) (C : Formula Plain) → All (FormulaWithin (λ k. ⊥) 0) (C ∷ Γ) → IsSequent (everything []) Γ C
+closed = typed [] (λ k. ⊥) (λ k b s. absurd b)
+
+with-seven : (Γ : List (Formula Plain)) (C : Formula Plain) → All (FormulaWithin (λ k. k ≡ 7) 0) (C ∷ Γ) → IsSequent (everything ((7, tt) ∷ [])) Γ C
+with-seven = typed ((7, tt) ∷ []) (λ k. k ≡ 7) (λ k b s. List·Memᴰ·head (ap (λ (n : ℕ). (n, s)) b))
+
+seven-fresh : Fresh (everything []) 7
+seven-fresh s m = List·Memᴰ·not-nil m
+
+in-order : {Γ : List (Formula Plain)} → Γ ≈ Γ
+in-order {Γ} = Permᴰ·refl Γ
+
+swapped : {B C : Formula Plain} {Γ : List (Formula Plain)} → (B ∷ C ∷ Γ) ≈ (C ∷ B ∷ Γ)
+swapped = List·Permᴰ·swap refl refl
+
+abbrev pub p : Formula Plain
+p = of (octets "p") Terms.nil
+
+abbrev pub q : Formula Plain
+q = of (octets "q") Terms.nil
+
+-- p(t), and a constant
+abbrev pub p′ : Term → Formula Plain
+p′ t = at (octets "p") t
+
+abbrev pub c : Term
+c = Term.f (octets "c") Terms.nil
+
+abbrev pub modus : Formula Plain
+modus = Formula.and p (Formula.implies p q)
+
+pub by-implication : Derivation (everything []) (modus ∷ []) q
+by-implication =
+    Derivation.contr-L (closed (modus ∷ []) q (omega arith)) in-order in-order
+    (Derivation.and-L₁ (closed (modus ∷ modus ∷ []) q (omega arith)) in-order in-order
+    (Derivation.and-L₂ (closed (p ∷ modus ∷ []) q (omega arith)) swapped in-order
+    (Derivation.implies-L (closed (Formula.implies p q ∷ p ∷ []) q (omega arith)) in-order in-order
+    (Derivation.id (closed (p ∷ []) p (omega arith)) in-order)
+    (Derivation.weak-L (closed (q ∷ p ∷ []) q (omega arith)) swapped
+    (Derivation.id (closed (q ∷ []) q (omega arith)) in-order)))))
+
+-- document 004, section 3: provable, but not uniformly
+pub by-cases : Derivation (everything []) (Formula.or p q ∷ []) (Formula.or q p)
+by-cases =
+    Derivation.or-L (closed (Formula.or p q ∷ []) (Formula.or q p) (omega arith)) in-order in-order in-order
+    (Derivation.or-R₂ (closed (p ∷ []) (Formula.or q p) (omega arith))
+    (Derivation.id (closed (p ∷ []) p (omega arith)) in-order))
+    (Derivation.or-R₁ (closed (q ∷ []) (Formula.or q p) (omega arith))
+    (Derivation.id (closed (q ∷ []) q (omega arith)) in-order))
+
+pub by-falsity : Derivation (everything []) [] (Formula.implies Formula.bottom p)
+by-falsity =
+    Derivation.implies-R (closed [] (Formula.implies Formula.bottom p) (omega arith)) in-order
+    (Derivation.bottom-L (closed (Formula.bottom ∷ []) p (omega arith)) in-order)
+
+pub by-truth : Derivation (everything []) (q ∷ []) (Formula.and Formula.top q)
+by-truth =
+    Derivation.and-R (closed (q ∷ []) (Formula.and Formula.top q) (omega arith))
+    (Derivation.top-R (closed (q ∷ []) Formula.top (omega arith)))
+    (Derivation.id (closed (q ∷ []) q (omega arith)) in-order)
+
+pub by-cut : Derivation (everything []) (Formula.and p q ∷ []) (Formula.or p q)
+by-cut =
+    Derivation.cut {Γ = Formula.and p q ∷ []} {Δ = []} {B = p} (closed (Formula.and p q ∷ []) (Formula.or p q) (omega arith)) in-order in-order
+    (Derivation.and-L₁ (closed (Formula.and p q ∷ []) p (omega arith)) in-order in-order
+    (Derivation.id (closed (p ∷ []) p (omega arith)) in-order))
+    (Derivation.or-R₁ (closed (p ∷ []) (Formula.or p q) (omega arith))
+    (Derivation.id (closed (p ∷ []) p (omega arith)) in-order))
+
+-- where there is a constant, for all gives there is
+pub by-constant : Derivation (everything []) (Formula.all tt (p′ (Term.v 0)) ∷ []) (Formula.some tt (p′ (Term.v 0)))
+by-constant =
+    Derivation.all-L c (closed (Formula.all tt (p′ (Term.v 0)) ∷ []) (Formula.some tt (p′ (Term.v 0))) (omega arith)) in-order ([], tt, tt) in-order
+    (Derivation.some-R c (closed (p′ c ∷ []) (Formula.some tt (p′ (Term.v 0))) (omega arith)) ([], tt, tt) refl
+    (Derivation.id (closed (p′ c ∷ []) (p′ c) (omega arith)) in-order))
+
+-- a fresh parameter is any that is not in the signature
+pub by-parameter : Derivation (everything []) (Formula.some tt (p′ (Term.v 0)) ∷ []) (Formula.some tt (p′ (Term.v 0)))
+by-parameter =
+    Derivation.some-L 7 (closed (Formula.some tt (p′ (Term.v 0)) ∷ []) (Formula.some tt (p′ (Term.v 0))) (omega arith)) in-order seven-fresh in-order
+    (Derivation.some-R (Term.e 7) (with-seven (p′ (Term.e 7) ∷ []) (Formula.some tt (p′ (Term.v 0))) (omega arith)) (List·Memᴰ·head refl) refl
+    (Derivation.id (with-seven (p′ (Term.e 7) ∷ []) (p′ (Term.e 7)) (omega arith)) in-order))
+
+pub by-generality : Derivation (everything []) (Formula.all tt (p′ (Term.v 0)) ∷ []) (Formula.all tt (p′ (Term.v 0)))
+by-generality =
+    Derivation.all-R 7 (closed (Formula.all tt (p′ (Term.v 0)) ∷ []) (Formula.all tt (p′ (Term.v 0))) (omega arith)) seven-fresh refl
+    (Derivation.all-L (Term.e 7) (with-seven (Formula.all tt (p′ (Term.v 0)) ∷ []) (p′ (Term.e 7)) (omega arith)) in-order (List·Memᴰ·head refl) in-order
+    (Derivation.id (with-seven (p′ (Term.e 7) ∷ []) (p′ (Term.e 7)) (omega arith)) in-order))
+
+-- the rules that these derivations use: all of Figure 1
+pub every-rule :
+    (rulesIn by-implication ≡ Rule.contr-L ∷ Rule.and-L₁ ∷ Rule.and-L₂ ∷ Rule.implies-L ∷ Rule.id ∷ Rule.weak-L ∷ Rule.id ∷ [])
+    × (rulesIn by-cases ≡ Rule.or-L ∷ Rule.or-R₂ ∷ Rule.id ∷ Rule.or-R₁ ∷ Rule.id ∷ [])
+    × (rulesIn by-falsity ≡ Rule.implies-R ∷ Rule.bottom-L ∷ [])
+    × (rulesIn by-truth ≡ Rule.and-R ∷ Rule.top-R ∷ Rule.id ∷ [])
+    × (rulesIn by-cut ≡ Rule.cut ∷ Rule.and-L₁ ∷ Rule.id ∷ Rule.or-R₁ ∷ Rule.id ∷ [])
+    × (rulesIn by-constant ≡ Rule.all-L ∷ Rule.some-R ∷ Rule.id ∷ [])
+    × (rulesIn by-parameter ≡ Rule.some-L ∷ Rule.some-R ∷ Rule.id ∷ [])
+    × (rulesIn by-generality ≡ Rule.all-R ∷ Rule.all-L ∷ Rule.id ∷ [])
+unfolding by-implication by-cases by-falsity by-truth by-cut by-constant by-parameter by-generality
+every-rule = (refl, refl, refl, refl, refl, refl, refl, refl)
