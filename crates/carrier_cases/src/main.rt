@@ -1,5 +1,5 @@
-// Judges every case of a file of carrier cases (second/README.md: a limit of nesting and a file, each a string) and prints one line for each. The cases and the
-// lines that are expected come from the second program alone.
+// Judges every case of the file `cases` in the present folder (second/README.md: a limit of nesting and a file, each a string), then the file `file.sx`, and prints
+// one line for each. A file that is not there is passed over. The stored cases and the lines that are expected come from the second program alone.
 use libc::STDOUT_FILENO;
 use sexp::Carrier;
 use sexp::Octets;
@@ -13,14 +13,10 @@ struct Part {
     to: usize,
 }
 
-// Reads a file whole, as far as the buffer goes; a missing one counts as empty.
-fn load(path: &[u8], buf: &mut [u8]) -> usize
+// Reads a file whole, as far as the buffer goes.
+fn load(fd: i32, buf: &mut [u8]) -> usize
     ensures { λ r. ⌜ Counts r (now (buf .exit)) ⌝ }
 {
-    let fd = os::open_read(path);
-    if fd < 0 {
-        return 0;
-    }
     let n = io::read_full(fd, buf);
     libc::close(fd);
     n
@@ -107,8 +103,27 @@ fn cases(s: &[u8]) {
     }
 }
 
-fn main() {
+fn the_cases() {
+    let fd = os::open_read(b"cases");
+    if fd < 0 {
+        return;
+    }
     let mut room = [0u8; 524288];
-    let n = load(b"cases", &mut room);
+    let n = load(fd, &mut room);
     cases(&room[..n]);
+}
+
+fn the_file() {
+    let fd = os::open_read(b"file.sx");
+    if fd < 0 {
+        return;
+    }
+    let mut room = [0u8; 524288];
+    let n = load(fd, &mut room);
+    show(sexp::canonical(&room[..n], 64));
+}
+
+fn main() {
+    the_cases();
+    the_file();
 }

@@ -121,3 +121,7 @@ module _ (s : List ℕ) (limit : ℕ) where
 
   pub any-two-answers-are-equal : (a b : Carrier) → Means s limit a → Means s limit b → a ≡ b
   any-two-answers-are-equal a b m n = only-the-answer-is-meant a m ∙ sym (only-the-answer-is-meant b n)
+
+  -- one answer for every input: what `canonical` promises of two results makes them equal
+  pub canonical-answer : (r r′ : Carrier) → r ≡ carrierOf limit s → r′ ≡ carrierOf limit s → r ≡ r′
+  canonical-answer r r′ h g = h ∙ sym g

@@ -22,6 +22,7 @@ use Rattle.sexp.specs.Text.{Span, Stops, VerbatimAt, TextAt}
 use Rattle.sexp.proofs.DecimalLaws.{digit-is, onto-small, onto-length, onto-first, decimal-once, no-leading-zero, NoDigit}
 use Rattle.sexp.proofs.NumberLaws.{drop-here}
 use Rattle.sexp.proofs.SpellLaws.{verbatim-length, verbatim-once}
+use Rattle.sexp.proofs.StandLaws.{byte-at, after-byte}
 use Rattle.sexp.proofs.ScanLaws.{no-bracket, at-some, at-none, at-end, at-due-string, string-none, number-colon, number-over, due-hint, hint-shut, hint-none, note-other, octets-short}
 use Rattle.sexp.proofs.Spelt.{spelt-number, spelt-string}
 
@@ -32,16 +33,7 @@ None s at = (bs rest : List ℕ) → drop at s ≡ verbatimOnto bs rest → ⊥
 module _ (s : List ℕ) (at : ℕ) where
   -- the first of the bytes from an offset on
   starts : (c : ℕ) (r : List ℕ) → drop at s ≡ c ∷ r → (at < length s) × ((getD s at 0 ≡ c) × (drop (at + 1) s ≡ r))
-  starts c r e = go (ltb at (length s)) refl
-    where
-      go : (b : Bool) → ltb at (length s) ≡ b → (at < length s) × ((getD s at 0 ≡ c) × (drop (at + 1) s ≡ r))
-      go true t =
-          let h = ltb-true at (length s) t in
-          let f = sym (drop-here s at h) ∙ e in
-          (h, (ap (λ (w : List ℕ). getD w 0 0) f, ap (drop 1) f))
-      go false t =
-          let f = ap length (sym (drop-of-length-le s {i = at} (ltb-false at (length s) t)) ∙ e) in
-          absurd (omega arith)
+  starts c r e = (omega (arith, ap length e, length-drop at s), (byte-at s at (c ∷ r) e, after-byte s at (c ∷ r) e))
 
   -- where the next byte is no digit, and so at the end too, no string stands
   none-digit : isDigit (getD s at 0) ≡ false → None s at
