@@ -1,3 +1,4 @@
 pub mod Choice
 pub mod Tells
 pub mod Text
+pub mod Each

@@ -1,13 +1,14 @@
 -- The order of the formulas on the left does not matter: a derivation is one of the same sequent in any order, by the same rules (specs/Multiset, specs/Derivation).
 use mathlib.Core.Path.{refl, subst}
 use mathlib.Core.List.{List, List·Permᴰ·nil, List·Permᴰ·cons, List·Permᴰ·swap, List·Permᴰ·trans, Permᴰ·symm}
+use Rattle.basics.specs.Each.{Each}
 use Rattle.calculus.specs.Formula.{Formula, Atomic}
-use Rattle.calculus.specs.Multiset.{_≈_, All}
+use Rattle.calculus.specs.Multiset.{_≈_}
 use Rattle.calculus.specs.Signature.{Signature, Over, IsSequent}
 use Rattle.calculus.specs.Derivation.{Derivation}
 use Rattle.calculus.specs.Uniform.{Rule, NoCut, ByRight, Everywhere, lastRule, UniformProof}
 
-pub all-reordered : {A : Type 0} (P : A → Type 0) {Γ Δ : List A} → Γ ≈ Δ → All P Γ → All P Δ
+pub all-reordered : {A : Type 0} (P : A → Type 0) {Γ Δ : List A} → Γ ≈ Δ → Each P Γ → Each P Δ
 all-reordered P List·Permᴰ·nil h = tt
 all-reordered P (List·Permᴰ·cons e d) h = (subst P e (h .0), all-reordered P d (h .1))
 all-reordered P (List·Permᴰ·swap e₁ e₂) h = (subst P e₂ (h .1 .0), (subst P e₁ (h .0), h .1 .1))

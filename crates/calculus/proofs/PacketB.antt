@@ -4,16 +4,17 @@ use mathlib.Core.List.{[], _∷_, map, Permᴰ·refl}
 use native.Mathlib.Omega.{arith}
 use Rattle.harrop.specs.Place.{listed, root}
 use Rattle.harrop.specs.Proves.{May, Reaches, Proves, ProvesAt}
+use Rattle.harrop.specs.Scoped.{Fair}
 use Rattle.harrop.specs.Cases.{p7, B, stripB}
 use Rattle.calculus.specs.Uniform.{UniformProof, Rule, rulesIn}
 use Rattle.calculus.specs.Translation.{goalFormula, clauseFormula}
-use Rattle.calculus.specs.Packet.{packetSymbols, packetSignature, Fair}
+use Rattle.calculus.specs.Packet.{packetSymbols, packetSignature}
 use Rattle.calculus.proofs.Derive.{tree}
 use Rattle.calculus.proofs.PacketLaws.{packet-apt}
 use Rattle.calculus.proofs.RootDerived.{root-typed, packet-derived}
 
 pub B-fair : Fair (B .rules) (B .goal) (B .terms)
-B-fair = record { closed = omega arith; candid = omega arith }
+B-fair = record { rules = omega arith; goal = omega arith; terms = omega arith }
 
 B-may : May (listed (B .terms)) [] tt 0
 B-may = record { term = p7; isListed = refl; isOpen = omega arith; doesSuit = refl }

@@ -5,10 +5,10 @@ use mathlib.Core.List.{List, [], _∷_, List·Memᴰ·tail}
 use mathlib.Core.Option.{some, Option·some-injective}
 use lib.ListN.{getElem?}
 use Rattle.basics.specs.Choice.{nope}
+use Rattle.basics.specs.Each.{Each}
 use Rattle.harrop.specs.Formula.{Term, Terms, Atom}
 use Rattle.calculus.specs.Formula.{Formula}
 use Rattle.calculus.specs.Substitution.{Substitution, renumbered, renumbereds, inTerm, inTerms, before, under, inFormula, itself, put}
-use Rattle.calculus.specs.Multiset.{All}
 use Rattle.calculus.specs.Signature.{Signature, declare, HasSort, HaveSorts, Has, FormulaOver, Over}
 
 module _ {S : Type 0} (Σ : Signature S) where
@@ -90,6 +90,6 @@ module _ {S : Type 0} (Σ : Signature S) where
     still-over vs (Formula.all s B) x = still-over (s ∷ vs) B x
     still-over vs (Formula.some s B) x = still-over (s ∷ vs) B x
 
-    pub all-still-over : (Γ : List (Formula S)) → All (Over Σ) Γ → All (Over (declare y q Σ)) Γ
+    pub all-still-over : (Γ : List (Formula S)) → Each (Over Σ) Γ → Each (Over (declare y q Σ)) Γ
     all-still-over [] x = tt
     all-still-over (B ∷ Γ) x = (still-over [] B (x .0), all-still-over Γ (x .1))

@@ -6,9 +6,10 @@ use native.Mathlib.Omega.{arith}
 use Rattle.harrop.specs.declared.Binding.{Binding}
 use Rattle.harrop.specs.Formula.{Term, Terms, Atom}
 use Rattle.harrop.specs.Bindings.{Bindings, meant, valueOf, replaced, replaceds, replacedAtom}
+use Rattle.harrop.specs.Scoped.{TermWithin, TermsWithin}
 use Rattle.calculus.specs.Formula.{Formula}
 use Rattle.calculus.specs.Substitution.{Substitution, renumbered, renumbereds, raised, inTerm, inTerms, inAtom, before, under, inFormula, itself, put}
-use Rattle.calculus.specs.Packet.{Within, AllWithin, FormulaWithin}
+use Rattle.calculus.specs.Packet.{FormulaWithin}
 
 mutual
   term-of-renumbered : (σ : Substitution) (ρ : ℕ → ℕ) (t : Term) → inTerm σ (renumbered ρ t) ≡ inTerm (λ i. σ (ρ i)) t
@@ -58,12 +59,12 @@ twice τ σ (Formula.some s B) = ap (Formula.some s) (twice (under τ) (under σ
 -- what leaves the variables below n alone leaves alone what has no other
 module _ (P : ℕ → Type 0) where
   mutual
-    term-kept : (n : ℕ) (σ : Substitution) (t : Term) → Within P n t → ((i : ℕ) → i < n → σ i ≡ Term.v i) → inTerm σ t ≡ t
+    term-kept : (n : ℕ) (σ : Substitution) (t : Term) → TermWithin P n t → ((i : ℕ) → i < n → σ i ≡ Term.v i) → inTerm σ t ≡ t
     term-kept n σ (Term.v i) w h = h i w
     term-kept n σ (Term.f g ts) w h = ap (Term.f g) (terms-kept n σ ts w h)
     term-kept n σ (Term.e k) w h = refl
 
-    terms-kept : (n : ℕ) (σ : Substitution) (ts : Terms) → AllWithin P n ts → ((i : ℕ) → i < n → σ i ≡ Term.v i) → inTerms σ ts ≡ ts
+    terms-kept : (n : ℕ) (σ : Substitution) (ts : Terms) → TermsWithin P n ts → ((i : ℕ) → i < n → σ i ≡ Term.v i) → inTerms σ ts ≡ ts
     terms-kept n σ Terms.nil w h = refl
     terms-kept n σ (Terms.cons t ts) w h = ap₂ Terms.cons (term-kept n σ t (w .0) h) (terms-kept n σ ts (w .1) h)
 

@@ -5,10 +5,11 @@ use mathlib.Core.Path.{_≡_, refl, ap}
 use mathlib.Core.List.{List, [], _∷_, List·Memᴰ, List·Memᴰ·head, List·Memᴰ·not-nil, List·Permᴰ·swap, Permᴰ·refl}
 use native.Mathlib.Omega.{arith}
 use Rattle.basics.specs.Text.{octets}
+use Rattle.basics.specs.Each.{Each}
 use Rattle.harrop.specs.Formula.{Term, Terms}
 use Rattle.harrop.specs.Place.{Plain}
 use Rattle.calculus.specs.Formula.{Formula}
-use Rattle.calculus.specs.Multiset.{_≈_, All}
+use Rattle.calculus.specs.Multiset.{_≈_}
 use Rattle.calculus.specs.Signature.{Signature, Fresh, IsSequent}
 use Rattle.calculus.specs.Derivation.{Derivation}
 use Rattle.calculus.specs.Uniform.{Rule, rulesIn}
@@ -22,16 +23,16 @@ abbrev pub everything : List (ℕ × Plain) → Signature Plain
 everything ps = record { symbols = plain (λ x. Unit {0}) (λ x. Unit {0}); parameters = ps }
 
 -- over it, a formula is one that has no free variable and no other parameter
-typed : (ps : List (ℕ × Plain)) (P : ℕ → Type 0) → ((k : ℕ) → P k → (s : Plain) → List·Memᴰ (k, s) ps) → (Γ : List (Formula Plain)) (C : Formula Plain) → All (FormulaWithin P 0) (C ∷ Γ) → IsSequent (everything ps) Γ C
+typed : (ps : List (ℕ × Plain)) (P : ℕ → Type 0) → ((k : ℕ) → P k → (s : Plain) → List·Memᴰ (k, s) ps) → (Γ : List (Formula Plain)) (C : Formula Plain) → Each (FormulaWithin P 0) (C ∷ Γ) → IsSequent (everything ps) Γ C
 typed ps P h Γ C w =
     let r = all-plain-over (λ x. Unit {0}) (λ x. Unit {0}) ps P h (C ∷ Γ) w (λ x m. tt) (λ x m. tt) in
     record { left = r .1; right = r .0 }
 
 -- with no parameter, and with parameter 7
-closed : (Γ : List (Formula Plain)) (C : Formula Plain) → All (FormulaWithin (λ k. ⊥) 0) (C ∷ Γ) → IsSequent (everything []) Γ C
+closed : (Γ : List (Formula Plain)) (C : Formula Plain) → Each (FormulaWithin (λ k. ⊥) 0) (C ∷ Γ) → IsSequent (everything []) Γ C
 closed = typed [] (λ k. ⊥) (λ k b s. absurd b)
 
-with-seven : (Γ : List (Formula Plain)) (C : Formula Plain) → All (FormulaWithin (λ k. k ≡ 7) 0) (C ∷ Γ) → IsSequent (everything ((7, tt) ∷ [])) Γ C
+with-seven : (Γ : List (Formula Plain)) (C : Formula Plain) → Each (FormulaWithin (λ k. k ≡ 7) 0) (C ∷ Γ) → IsSequent (everything ((7, tt) ∷ [])) Γ C
 with-seven = typed ((7, tt) ∷ []) (λ k. k ≡ 7) (λ k b s. List·Memᴰ·head (ap (λ (n : ℕ). (n, s)) b))
 
 seven-fresh : Fresh (everything []) 7

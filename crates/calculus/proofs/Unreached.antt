@@ -4,10 +4,11 @@ use Prim.Native.Nat.{ℕ}
 use mathlib.Core.Path.{_≡_, refl, sym, _∙_, ap, subst}
 use mathlib.Core.List.{List, [], _∷_, List·Memᴰ·tail, List·Memᴰ·not-nil, Permᴰ·symm}
 use Rattle.basics.specs.Choice.{nope}
+use Rattle.basics.specs.Each.{Each}
 use Rattle.harrop.specs.Formula.{Name, Term, Terms, Atom}
 use Rattle.calculus.specs.Formula.{Formula}
 use Rattle.calculus.specs.Substitution.{put}
-use Rattle.calculus.specs.Multiset.{_≈_, All}
+use Rattle.calculus.specs.Multiset.{_≈_}
 use Rattle.calculus.specs.Signature.{Signature, Declares, Fresh, Has}
 use Rattle.calculus.specs.Derivation.{Derivation}
 use Rattle.calculus.specs.Uniform.{CutFree}
@@ -19,7 +20,7 @@ at p t = Formula.atom (Atom.atom p (Terms.cons t Terms.nil))
 
 module _ {S : Type 0} where
   -- the left side above a contraction
-  doubled : (P : Formula S → Type 0) {Θ Γ Λ : List (Formula S)} {B : Formula S} → Θ ≈ (B ∷ Γ) → Λ ≈ (B ∷ B ∷ Γ) → All P Θ → All P Λ
+  doubled : (P : Formula S → Type 0) {Θ Γ Λ : List (Formula S)} {B : Formula S} → Θ ≈ (B ∷ Γ) → Λ ≈ (B ∷ B ∷ Γ) → Each P Θ → Each P Λ
   doubled P m n h = let k = all-reordered P m h in all-reordered P (Permᴰ·symm n) (k .0, k)
 
   IsAll : Formula S → Type 0
@@ -57,7 +58,7 @@ module _ {S : Type 0} where
   abbrev pub Barren : Signature S → Type 0
   Barren Σ = (t : Term) (s : S) → ¬ (Has Σ t s)
 
-  none-from-alls : {Σ : Signature S} {Γ : List (Formula S)} {C : Formula S} (d : Derivation Σ Γ C) → CutFree d → Barren Σ → All IsAll Γ → IsSome C → ⊥
+  none-from-alls : {Σ : Signature S} {Γ : List (Formula S)} {C : Formula S} (d : Derivation Σ Γ C) → CutFree d → Barren Σ → Each IsAll Γ → IsSome C → ⊥
   unfolding IsAll IsSome
   none-from-alls (Derivation.id {B = B} q m) c b l r = not-both B (all-reordered IsAll m l .0) r
   none-from-alls (Derivation.cut q m n D E) c b l r = c .0
@@ -141,7 +142,7 @@ module _ {S : Type 0} (p : Name) (n : ℕ) where
   asked-of-fresh Σ {s} y k f e b =
       subst Asked (sym (e ∙ ap (put (Term.e y)) b)) (y, λ z. f s (subst (λ (x : ℕ). Declares Σ x s) (sym z) k), refl)
 
-  none-from-one : {Σ : Signature S} {Γ : List (Formula S)} {C : Formula S} {s : S} (d : Derivation Σ Γ C) → CutFree d → Declares Σ n s → All Given Γ → Asked C → ⊥
+  none-from-one : {Σ : Signature S} {Γ : List (Formula S)} {C : Formula S} {s : S} (d : Derivation Σ Γ C) → CutFree d → Declares Σ n s → Each Given Γ → Asked C → ⊥
   unfolding Given Asked
   none-from-one (Derivation.id {B = B} q m) c k l r = given-not-asked B (all-reordered Given m l .0) r
   none-from-one (Derivation.cut q m u D E) c k l r = c .0

@@ -1,12 +1,12 @@
--- The signature of a packet: the symbols of rules, goal and terms, and no parameter (document 01, "What the desk judges"); and what the packet's readers must have seen to:
--- rules and goal have no free variable and no `e`, candidates no `v` and parameters from 1 on (document 01, "The carrier and the words").
-use Prim.Native.Nat.{ℕ, suc, _≤_, _<_}
+-- The signature of a packet: the symbols of rules, goal and terms, and no parameter (document 01, "What the desk judges").
+-- And a formula's free variables and parameters, as crate `harrop` (Scoped) has them of goals and clauses.
+use Prim.Native.Nat.{ℕ, suc}
 use mathlib.Core.List.{List, [], _∷_, _++_, map, List·Memᴰ}
 use lib.ListN.{length}
 use Rattle.harrop.specs.Formula.{Name, Term, Terms, Atom, Goal, Clause}
 use Rattle.harrop.specs.Place.{Plain}
+use Rattle.harrop.specs.Scoped.{AtomWithin}
 use Rattle.calculus.specs.Formula.{Formula}
-use Rattle.calculus.specs.Multiset.{All}
 use Rattle.calculus.specs.Signature.{Symbols, Signature}
 use Rattle.calculus.specs.Translation.{goalFormula, clauseFormula}
 
@@ -72,20 +72,7 @@ packetSymbols ds g ts = plain (λ x. List·Memᴰ x (packetFunctions ds g ts)) (
 abbrev pub packetSignature : List (Clause Plain) → Goal Plain → List Term → Signature Plain
 packetSignature ds g ts = record { symbols = packetSymbols ds g ts; parameters = [] }
 
--- Within P n: every variable is below n, quantifiers above it in the formula counted, and P holds of every parameter
-abbrev mutual
-  pub Within : (ℕ → Type 0) → ℕ → Term → Type 0
-  Within P n (Term.v i) = i < n
-  Within P n (Term.f g ts) = AllWithin P n ts
-  Within P n (Term.e k) = P k
-
-  pub AllWithin : (ℕ → Type 0) → ℕ → Terms → Type 0
-  AllWithin P n Terms.nil = Unit {0}
-  AllWithin P n (Terms.cons t ts) = Within P n t × AllWithin P n ts
-
-abbrev pub AtomWithin : (ℕ → Type 0) → ℕ → Atom → Type 0
-AtomWithin P n (Atom.atom p ts) = AllWithin P n ts
-
+-- every variable is below n, with the quantifiers on the way to it counted in, and P holds of every parameter
 abbrev pub FormulaWithin : {S : Type 0} → (ℕ → Type 0) → ℕ → Formula S → Type 0
 FormulaWithin P n (Formula.atom a) = AtomWithin P n a
 FormulaWithin P n Formula.top = Unit {0}
@@ -96,15 +83,6 @@ FormulaWithin P n (Formula.implies B C) = FormulaWithin P n B × FormulaWithin P
 FormulaWithin P n (Formula.all s B) = FormulaWithin P (suc n) B
 FormulaWithin P n (Formula.some s B) = FormulaWithin P (suc n) B
 
--- a formula of rules or goal: no free variable, no parameter
+-- no free variable, no parameter
 abbrev pub Closed : {S : Type 0} → Formula S → Type 0
 Closed B = FormulaWithin (λ k. ⊥) 0 B
-
--- a candidate: no variable, parameters from 1 on
-abbrev pub Candid : Term → Type 0
-Candid t = Within (λ k. 1 ≤ k) 0 t
-
--- what crate `packet` shows of every packet that it reads
-pub record Fair {Q : Type 0} (ds : List (Clause Q)) (g : Goal Q) (ts : List Term) : Type 0 where
-  pub closed : All Closed (formulasOf ds g)
-  pub candid : All Candid ts

@@ -6,9 +6,9 @@ use mathlib.Core.Path.{_≡_}
 use mathlib.Core.List.{List, [], _∷_, List·Memᴰ}
 use mathlib.Core.Option.{some}
 use lib.ListN.{getElem?}
+use Rattle.basics.specs.Each.{Each}
 use Rattle.harrop.specs.Formula.{Name, Term, Terms, Atom}
 use Rattle.calculus.specs.Formula.{Formula}
-use Rattle.calculus.specs.Multiset.{All}
 
 -- function g ss s: the function g takes arguments of the sorts ss to the sort s; predicate p ss: the predicate p takes arguments of the sorts ss
 pub record Symbols (S : Type 0) : Type 1 where
@@ -69,7 +69,7 @@ module _ {S : Type 0} where
 
   -- Σ : Γ → C is a sequent: all its formulas are well-typed, given Σ
   pub record IsSequent (Σ : Signature S) (Γ : List (Formula S)) (C : Formula S) : Type 0 where
-    pub left : All (Over Σ) Γ
+    pub left : Each (Over Σ) Γ
     pub right : Over Σ C
 
 -- Σ : Γ → C as one thing

@@ -9,4 +9,5 @@ pub mod Check
 pub mod Search
 pub mod Order
 pub mod First
+pub mod Scoped
 pub mod Cases
