@@ -18,3 +18,4 @@ pub mod Examples
 pub mod NameLaws
 pub mod WordsAtLaws
 pub mod NumeralLaws
+pub mod FoundLaws

@@ -17,7 +17,7 @@ use Rattle.sexp.proofs.StandLaws.{string-once}
 use Rattle.sexp.proofs.WordLaws.{decimal-is, worth-decimal, number-back}
 
 -- a test's answer as a statement
-test-tells : (b r : Bool) → r ≡ b → Tells r (b ≡ true)
+pub test-tells : (b r : Bool) → r ≡ b → Tells r (b ≡ true)
 test-tells true r e = subst (λ (x : Bool). Tells x (true ≡ true)) (sym e) refl
 test-tells false r e = subst (λ (x : Bool). Tells x (false ≡ true)) (sym e) false≢true
 
