@@ -73,7 +73,7 @@ module _ {Q : Type 0} (Y : Symbols Q) (cs : Candidates Q) (apt : Apt Y cs) where
   next-over o q bs B h =
       subst (Over (signatureAt Y (q ∷ o))) (bound (cs .terms) (Parameter (suc (length o))) bs B)
       (put-over (signatureAt Y (q ∷ o)) (Term.e (suc (length o))) q (inFormula (under (valueOf (cs .terms) bs)) B) (List·Memᴰ·head refl)
-      (still-over (signatureAt Y o) (suc (length o)) q (q ∷ []) (inFormula (under (valueOf (cs .terms) bs)) B) h))
+      (still-over Y (parametersOf o) (parametersOf (q ∷ o)) (λ x m. List·Memᴰ·tail m) (q ∷ []) (inFormula (under (valueOf (cs .terms) bs)) B) h))
 
   -- the left rules that follow a path, up to where it ends
   abbrev pub along : {o : List Q} {d : Clause Q} {bs : Bindings} {path : List Step} {x : End Q} (Γ : List (Formula Q)) (C : Formula Q) → Reaches cs o d bs path x → IsSequent (signatureAt Y o) (standing (cs .terms) bs (clauseFormula d) ∷ Γ) C → (IsSequent (signatureAt Y o) (ending (cs .terms) x ∷ Γ) C → Derivation (signatureAt Y o) (ending (cs .terms) x ∷ Γ) C) → Derivation (signatureAt Y o) (standing (cs .terms) bs (clauseFormula d) ∷ Γ) C
@@ -109,7 +109,7 @@ module _ {Q : Type 0} (Y : Symbols Q) (cs : Candidates Q) (apt : Apt Y cs) where
   tree (Proves.by-all {o = o} {c = c} {bs = bs} {q = s} {g = g} p) q =
       Derivation.all-R (suc (length o)) q (next-fresh Y o) (sym (bound (cs .terms) (Parameter (suc (length o))) bs (goalFormula g)))
       (tree p (record {
-        left = all-still-over (signatureAt Y o) (suc (length o)) s (leftOf (cs .terms) c) (q .left);
+        left = all-still-over Y (parametersOf o) (parametersOf (s ∷ o)) (λ x m. List·Memᴰ·tail m) (leftOf (cs .terms) c) (q .left);
         right = next-over o s bs (goalFormula g) (q .right);
       }))
   tree (Proves.by-imp {o = o} {c = c} {bs = bs} {d = d} p) q =

@@ -12,3 +12,4 @@ pub mod Unreached
 pub mod Table
 pub mod PacketB
 pub mod NotUniform
+pub mod SetLaws

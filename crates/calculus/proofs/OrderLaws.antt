@@ -70,7 +70,7 @@ module _ {S : Type 0} where
   in-any-order w u = record {
     tree = reordered w (u .tree);
     uniform = record {
-      cut-free = throughout-reordered (λ C k. NoCut k) w (u .tree) (u .uniform .cut-free);
-      right-first = throughout-reordered (λ C k. ¬ (Atomic C) → ByRight k) w (u .tree) (u .uniform .right-first);
+      cut-free = throughout-reordered (λ C r. NoCut r) w (u .tree) (u .uniform .cut-free);
+      right-first = throughout-reordered (λ C r. ¬ (Atomic C) → ByRight r) w (u .tree) (u .uniform .right-first);
     };
   }

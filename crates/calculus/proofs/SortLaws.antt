@@ -1,7 +1,7 @@
 -- A term keeps its sort, and a formula stays over its signature, when variables are replaced by terms of their sorts and when the signature grows (specs/Signature).
 use Prim.Native.Nat.{ℕ, zero, suc}
 use mathlib.Core.Path.{_≡_, subst}
-use mathlib.Core.List.{List, [], _∷_, List·Memᴰ·tail}
+use mathlib.Core.List.{List, [], _∷_, List·Memᴰ, List·Memᴰ·head, List·Memᴰ·tail}
 use mathlib.Core.Option.{some, Option·some-injective}
 use lib.ListN.{getElem?}
 use Rattle.basics.specs.Choice.{nope}
@@ -9,7 +9,7 @@ use Rattle.basics.specs.Each.{Each}
 use Rattle.harrop.specs.Formula.{Term, Terms, Atom}
 use Rattle.calculus.specs.Formula.{Formula}
 use Rattle.calculus.specs.Substitution.{Substitution, renumbered, renumbereds, inTerm, inTerms, before, under, inFormula, itself, put}
-use Rattle.calculus.specs.Signature.{Signature, declare, HasSort, HaveSorts, Has, FormulaOver, Over}
+use Rattle.calculus.specs.Signature.{Symbols, Signature, IsSequent, HasSort, HaveSorts, Has, FormulaOver, Over}
 
 module _ {S : Type 0} (Σ : Signature S) where
   -- variables renumbered to variables of the same sorts
@@ -66,30 +66,48 @@ module _ {S : Type 0} (Σ : Signature S) where
   pub put-over : (t : Term) (q : S) (B : Formula S) → Has Σ t q → FormulaOver Σ (q ∷ []) B → Over Σ (put t B)
   put-over t q B h x = instance-over (before t itself) (q ∷ []) [] B (first-suits t q h) x
 
-  -- one parameter more
-  module _ (y : ℕ) (q : S) where
-    mutual
-      term-still : (vs : List S) (t : Term) (s : S) → HasSort Σ vs t s → HasSort (declare y q Σ) vs t s
-      term-still vs (Term.v i) s x = x
-      term-still vs (Term.f g ts) s (ss, z, x) = (ss, z, terms-still vs ts ss x)
-      term-still vs (Term.e k) s x = List·Memᴰ·tail x
+-- every parameter of one list is one of the other, with its sort
+abbrev pub Part : {S : Type 0} → List (ℕ × S) → List (ℕ × S) → Type 0
+Part {S} ps qs = (x : ℕ × S) → List·Memᴰ x ps → List·Memᴰ x qs
 
-      terms-still : (vs : List S) (ts : Terms) (ss : List S) → HaveSorts Σ vs ts ss → HaveSorts (declare y q Σ) vs ts ss
-      terms-still vs Terms.nil [] x = tt
-      terms-still vs Terms.nil (s ∷ ss) x = x
-      terms-still vs (Terms.cons t ts) [] x = x
-      terms-still vs (Terms.cons t ts) (s ∷ ss) x = (term-still vs t s (x .0), terms-still vs ts ss (x .1))
+-- with these parameters more
+module _ {S : Type 0} (Y : Symbols S) (ps qs : List (ℕ × S)) (i : Part ps qs) where
+  abbrev smaller : Signature S
+  smaller = record { symbols = Y; parameters = ps }
 
-    pub still-over : (vs : List S) (B : Formula S) → FormulaOver Σ vs B → FormulaOver (declare y q Σ) vs B
-    still-over vs (Formula.atom (Atom.atom p ts)) (ss, z, x) = (ss, z, terms-still vs ts ss x)
-    still-over vs Formula.top x = tt
-    still-over vs Formula.bottom x = tt
-    still-over vs (Formula.and B C) x = (still-over vs B (x .0), still-over vs C (x .1))
-    still-over vs (Formula.or B C) x = (still-over vs B (x .0), still-over vs C (x .1))
-    still-over vs (Formula.implies B C) x = (still-over vs B (x .0), still-over vs C (x .1))
-    still-over vs (Formula.all s B) x = still-over (s ∷ vs) B x
-    still-over vs (Formula.some s B) x = still-over (s ∷ vs) B x
+  abbrev greater : Signature S
+  greater = record { symbols = Y; parameters = qs }
 
-    pub all-still-over : (Γ : List (Formula S)) → Each (Over Σ) Γ → Each (Over (declare y q Σ)) Γ
-    all-still-over [] x = tt
-    all-still-over (B ∷ Γ) x = (still-over [] B (x .0), all-still-over Γ (x .1))
+  mutual
+    pub term-still : (vs : List S) (t : Term) (s : S) → HasSort smaller vs t s → HasSort greater vs t s
+    term-still vs (Term.v j) s x = x
+    term-still vs (Term.f g ts) s (ss, z, x) = (ss, z, terms-still vs ts ss x)
+    term-still vs (Term.e k) s x = i (k, s) x
+
+    pub terms-still : (vs : List S) (ts : Terms) (ss : List S) → HaveSorts smaller vs ts ss → HaveSorts greater vs ts ss
+    terms-still vs Terms.nil [] x = tt
+    terms-still vs Terms.nil (s ∷ ss) x = x
+    terms-still vs (Terms.cons t ts) [] x = x
+    terms-still vs (Terms.cons t ts) (s ∷ ss) x = (term-still vs t s (x .0), terms-still vs ts ss (x .1))
+
+  pub still-over : (vs : List S) (B : Formula S) → FormulaOver smaller vs B → FormulaOver greater vs B
+  still-over vs (Formula.atom (Atom.atom p ts)) (ss, z, x) = (ss, z, terms-still vs ts ss x)
+  still-over vs Formula.top x = tt
+  still-over vs Formula.bottom x = tt
+  still-over vs (Formula.and B C) x = (still-over vs B (x .0), still-over vs C (x .1))
+  still-over vs (Formula.or B C) x = (still-over vs B (x .0), still-over vs C (x .1))
+  still-over vs (Formula.implies B C) x = (still-over vs B (x .0), still-over vs C (x .1))
+  still-over vs (Formula.all s B) x = still-over (s ∷ vs) B x
+  still-over vs (Formula.some s B) x = still-over (s ∷ vs) B x
+
+  pub all-still-over : (Γ : List (Formula S)) → Each (Over smaller) Γ → Each (Over greater) Γ
+  all-still-over [] x = tt
+  all-still-over (B ∷ Γ) x = (still-over [] B (x .0), all-still-over Γ (x .1))
+
+  pub still-sequent : {Γ : List (Formula S)} {C : Formula S} → IsSequent smaller Γ C → IsSequent greater Γ C
+  still-sequent {Γ} {C} q = record { left = all-still-over Γ (q .left); right = still-over [] C (q .right) }
+
+  -- one more in both
+  pub part-grown : (x : ℕ × S) → Part (x ∷ ps) (x ∷ qs)
+  part-grown x y (List·Memᴰ·head e) = List·Memᴰ·head e
+  part-grown x y (List·Memᴰ·tail m) = List·Memᴰ·tail (i y m)
