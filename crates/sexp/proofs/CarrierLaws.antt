@@ -1,11 +1,10 @@
 -- How the carrier's judgement goes on where an item of a file is due: a list opens, a list closes, a string is passed, the file ends.
 use Prim.Native.Nat.{ℕ, zero, suc, _+_, _-_, _<_, _≤_}
 use mathlib.Core.Path.{_≡_, refl, sym, ap, subst, _∙_}
-use mathlib.Core.Bool.{Bool, true, false, _&&_}
+use mathlib.Core.Bool.{Bool}
 use mathlib.Core.List.{List, [], _∷_}
 use mathlib.Core.Option.{Option, none, some}
 use native.Mathlib.Omega.{arith}
-use lib.Dec.{eqb}
 use lib.ListN.{length, getD, drop, length-drop}
 use borrow.Author.Tests.{eq-eqb, ne-eqb}
 use Rattle.sexp.specs.declared.carrier.Carrier.{Carrier}
@@ -15,8 +14,8 @@ use Rattle.sexp.specs.declared.text.Reading.the-variants.{Spans, Stuck}
 use Rattle.sexp.specs.Decimal.{isDigit}
 use Rattle.sexp.specs.Sexp.{spell}
 use Rattle.sexp.specs.Known.{textOf}
-use Rattle.sexp.specs.Scan.{hintsRead, after, State, due, owed, step, note, deeper, ended, scan, judgement, carrierOf}
-use Rattle.sexp.specs.Text.{Span, TextAt}
+use Rattle.sexp.specs.Scan.{hintsRead, after, State, due, owed, step, deeper, ended, scan, judgement, carrierOf}
+use Rattle.sexp.specs.Text.{TextAt}
 use Rattle.sexp.proofs.NumberLaws.{drop-here}
 use Rattle.sexp.proofs.SpellLaws.{spell-length}
 use Rattle.sexp.proofs.ScanLaws.{at-some, at-none, at-end, at-due-string, no-bracket, string-none, due-open, owed-close, owed-due, note-open, note-other, note-owed}

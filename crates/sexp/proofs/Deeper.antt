@@ -1,8 +1,8 @@
 -- Where the first list opens above the limit of nesting, and what nesting has to do with it. From document 01, "Sizes": the outermost list is level 1.
-use Prim.Native.Nat.{ℕ, zero, suc, _+_, _≤_, _<_, max}
+use Prim.Native.Nat.{ℕ, zero, suc, _+_, _≤_, _<_}
 use mathlib.Core.Path.{_≡_, refl, sym, _∙_, ap, subst}
 use mathlib.Core.Bool.{Bool, true, false}
-use mathlib.Core.List.{List, [], _∷_}
+use mathlib.Core.List.{[], _∷_}
 use mathlib.Core.Logic.{_⊎_, inl, inr, ⊎-elim}
 use native.Mathlib.Omega.{arith}
 use lib.Dec.{eqb, ltb}
@@ -11,7 +11,7 @@ use borrow.Author.Tests.{eqb-true, eqb-false, ltb-true, ltb-false}
 use Rattle.basics.specs.Choice.{choose}
 use Rattle.sexp.specs.declared.carrier.Carrier.{Carrier}
 use Rattle.sexp.specs.declared.carrier.Carrier.the-variants.{Sound, Fault, Deep}
-use Rattle.sexp.specs.Sexp.{Sexp, Sexps, str, hinted, list, nil, cons, spellOnto, spellsOnto, spell, spells, nesting, nestings}
+use Rattle.sexp.specs.Sexp.{Sexp, Sexps, str, hinted, list, nil, cons, spell, spells, nesting, nestings}
 use Rattle.sexp.specs.Place.{At, Among, here, within, first, later, Opens}
 use Rattle.sexp.specs.Scan.{deeper}
 use Rattle.sexp.proofs.SpellLaws.{spell-length, spells-length}

@@ -1,16 +1,15 @@
 -- Files that document 01 and RFC 9804 name, judged by computing with the definition: case 11, case 12, the examples of the canonical form, and bad input.
 use Prim.Native.String.{String}
-use Prim.Native.Nat.{ℕ, zero, suc}
 use mathlib.Core.Path.{_≡_, refl}
 use mathlib.Core.Bool.{true}
 use mathlib.Core.List.{List, [], _∷_, _++_}
-use mathlib.Core.Option.{Option, none, some}
+use mathlib.Core.Option.{some}
 use lib.ListN.{replicate}
 use Rattle.basics.specs.Text.{octets}
 use Rattle.sexp.specs.declared.carrier.Carrier.{Carrier}
 use Rattle.sexp.specs.declared.carrier.Carrier.the-variants.{Sound, Fault, Deep}
-use Rattle.sexp.specs.Decimal.{decimalOnto, isDigit}
-use Rattle.sexp.specs.Sexp.{Sexp, Sexps, str, hinted, list, nil, cons, spell}
+use Rattle.sexp.specs.Decimal.{isDigit}
+use Rattle.sexp.specs.Sexp.{str, hinted, list, nil, cons}
 use Rattle.sexp.specs.Scan.{step, digit, begin, note, deeper, ended, scan, judgement, carrierOf}
 use Rattle.sexp.specs.Read.{read}
 

@@ -1,12 +1,12 @@
 -- What is spelt is read, and what is read is spelt so: reading gives e exactly from `spell e`, for every expression, hinted strings included.
 -- From document 01, "The carrier and the words".
-use Prim.Native.Nat.{ℕ, zero, suc, _+_, _*_, _-_, _≤_, _<_}
+use Prim.Native.Nat.{ℕ, _+_, _*_, _-_, _≤_, _<_}
 use mathlib.Core.Path.{_≡_, refl, sym, _∙_, ap, subst}
-use mathlib.Core.Bool.{Bool, true, false}
+use mathlib.Core.Bool.{true}
 use mathlib.Core.List.{List, [], _∷_, _++_}
 use mathlib.Core.Option.{Option, none, some, Option·none-ne-some, Option·some-injective}
 use native.Mathlib.Omega.{arith}
-use lib.ListN.{length, take}
+use lib.ListN.{length}
 use lib.Seq.{take-append-seam}
 use borrow.Author.Tests.{ne-eqb}
 use Rattle.sexp.specs.declared.carrier.Carrier.{Carrier}
@@ -16,7 +16,7 @@ use Rattle.sexp.specs.Sexp.{Sexp, Sexps, str, hinted, list, nil, cons, s
 use Rattle.sexp.specs.Known.{Known, Knowns}
 use Rattle.sexp.specs.Scan.{hintsRead, judgement, carrierOf}
 use Rattle.sexp.specs.Meaning.{MeansWith, Means}
-use Rattle.sexp.specs.Read.{snoc, add, close, Hint, bare, begun, given, put, next, build, only, built, read}
+use Rattle.sexp.specs.Read.{snoc, add, Hint, bare, begun, given, put, next, build, only, built, read}
 use Rattle.sexp.proofs.DecimalLaws.{onto-small, onto-step, by-digits}
 use Rattle.sexp.proofs.Meant.{meant, the-answer-means-what-it-says}
 

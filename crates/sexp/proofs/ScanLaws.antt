@@ -2,16 +2,15 @@
 -- limit of nesting, are any.
 use mathlib.Core.Path.{_≡_, refl, sym, ap, ap₂, subst, _∙_}
 use mathlib.Core.Bool.{Bool, true, false, _&&_}
-use mathlib.Core.List.{List, [], _∷_, _++_}
+use mathlib.Core.List.{List, [], _∷_}
 use mathlib.Core.Option.{Option, none, some}
 use Prim.Native.Nat.{ℕ, zero, suc, _+_, _-_, _*_, _<_, _≤_}
 use native.Mathlib.Omega.{arith}
-use lib.Dec.{ltb, eqb}
+use lib.Dec.{eqb}
 use lib.ListN.{length, getD, drop, drop-of-length-le}
 use borrow.Author.Tests.{lt-ltb, eq-eqb, ne-eqb}
-use Rattle.basics.specs.Choice.{choose}
 use Rattle.sexp.specs.declared.carrier.Carrier.{Carrier}
-use Rattle.sexp.specs.declared.carrier.Carrier.the-variants.{Sound, Fault, Deep}
+use Rattle.sexp.specs.declared.carrier.Carrier.the-variants.{Fault}
 use Rattle.sexp.specs.Decimal.{isDigit}
 use Rattle.sexp.specs.Scan.{Then, after, shut, State, due, string, number, owed, digit, begin, step, deeper, note, ended, scan}
 use Rattle.sexp.proofs.DecimalLaws.{digit-high}

@@ -1,14 +1,14 @@
 -- Two expressions with one spelling are the same, and no spelling is a proper beginning of another; hinted strings included.
 -- Both are one law: the bytes tell the expression at their front and what follows it. From document 01, "A file is one expression and not a byte more".
-use Prim.Native.Nat.{ℕ, zero, suc, _+_, _≤_, _<_}
-use mathlib.Core.Path.{_≡_, refl, sym, _∙_, ap, ap₂, subst}
+use Prim.Native.Nat.{ℕ, _+_, _≤_}
+use mathlib.Core.Path.{_≡_, refl, sym, _∙_, ap, ap₂}
 use mathlib.Core.List.{List, [], _∷_, _++_}
 use native.Mathlib.Omega.{arith}
 use lib.ListN.{length, getD, take, drop, length-append}
 use lib.Seq.{take-append-seam, drop-append-seam}
-use Rattle.sexp.specs.Decimal.{decimalOnto, isDigit}
+use Rattle.sexp.specs.Decimal.{isDigit}
 use Rattle.sexp.specs.Sexp.{Sexp, Sexps, str, hinted, list, nil, cons, verbatimOnto, spellOnto, spellsOnto, spell, spells}
-use Rattle.sexp.proofs.DecimalLaws.{onto-length, onto-first, decimal-once, DigitFirst}
+use Rattle.sexp.proofs.DecimalLaws.{onto-length, onto-first, decimal-once}
 
 -- how long a string is, and an expression, does not depend on what follows
 pub verbatim-length : (bs k : List ℕ) → length (verbatimOnto bs k) ≡ length (verbatimOnto bs []) + length k

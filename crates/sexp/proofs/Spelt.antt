@@ -1,16 +1,16 @@
 -- What is spelt is passed: the scan over an expression that it knows. From document 01, "The carrier and the words".
-use Prim.Native.Nat.{ℕ, zero, suc, _+_, _*_, _-_, _≤_, _<_}
+use Prim.Native.Nat.{ℕ, suc, _+_, _*_, _-_, _<_}
 use mathlib.Core.Path.{_≡_, refl, sym, _∙_, ap, subst}
-use mathlib.Core.Bool.{Bool, true, false, _&&_}
+use mathlib.Core.Bool.{Bool}
 use mathlib.Core.List.{List, [], _∷_, _++_}
 use native.Mathlib.Omega.{arith}
 use lib.ListN.{length, length-append}
 use Rattle.sexp.specs.declared.carrier.Carrier.{Carrier}
-use Rattle.sexp.specs.declared.carrier.Carrier.the-variants.{Sound, Fault, Deep}
+use Rattle.sexp.specs.declared.carrier.Carrier.the-variants.{Sound}
 use Rattle.sexp.specs.Decimal.{decimalOnto}
 use Rattle.sexp.specs.Sexp.{Sexp, Sexps, str, hinted, list, nil, cons, spellOnto, spellsOnto, spell, spells, verbatimOnto}
 use Rattle.sexp.specs.Known.{Known, Knowns}
-use Rattle.sexp.specs.Scan.{Then, after, shut, State, due, string, number, owed, step, deeper, note, ended, scan, judgement}
+use Rattle.sexp.specs.Scan.{Then, after, shut, due, string, number, owed, step, deeper, note, ended, scan, judgement}
 use Rattle.sexp.proofs.DecimalLaws.{onto-small, onto-step, by-digits, onto-length, onto-first, digit-is, DigitFirst}
 use Rattle.sexp.proofs.SpellLaws.{verbatim-length, spell-length, spells-length}
 use Rattle.sexp.proofs.ScanLaws.{scan-some, due-open, string-digit, number-digit, number-colon, owed-close, no-bracket, owed-due, due-string, due-hint, hint-shut}

@@ -1,5 +1,5 @@
 -- What the reader of a string finds, case by case: the string and where it ends, or that none stands there and where the scan stops.
-use Prim.Native.Nat.{ℕ, zero, suc, _+_, _-_, _<_, _≤_}
+use Prim.Native.Nat.{ℕ, _+_, _-_, _<_, _≤_}
 use mathlib.Core.Path.{_≡_, refl, sym, ap, subst, _∙_}
 use mathlib.Core.Bool.{Bool, true, false, _&&_, false≢true}
 use mathlib.Core.List.{List, [], _∷_, _++_}
@@ -10,15 +10,15 @@ use lib.ListN.{length, getD, take, drop, length-drop, length-take, length-append
 use lib.Seq.{drop-drop}
 use borrow.Author.Tests.{ltb-true, ltb-false, eq-eqb}
 use Rattle.sexp.specs.declared.carrier.Carrier.{Carrier}
-use Rattle.sexp.specs.declared.carrier.Carrier.the-variants.{Sound, Fault, Deep}
+use Rattle.sexp.specs.declared.carrier.Carrier.the-variants.{Fault}
 use Rattle.sexp.specs.declared.text.Reading.{Reading}
 use Rattle.sexp.specs.declared.text.Reading.the-variants.{Spans, Stuck}
 use Rattle.sexp.specs.Decimal.{decimalOnto, isDigit}
-use Rattle.sexp.specs.Number.{Digits, Number}
+use Rattle.sexp.specs.Number.{Number}
 use Rattle.sexp.specs.Sexp.{verbatimOnto, spellOnto}
 use Rattle.sexp.specs.Known.{Known, textOf}
-use Rattle.sexp.specs.Scan.{Then, after, shut, State, due, string, number, owed, note, ended, scan}
-use Rattle.sexp.specs.Text.{Span, Stops, VerbatimAt, TextAt}
+use Rattle.sexp.specs.Scan.{Then, after, shut, due, string, number, owed, note, ended, scan}
+use Rattle.sexp.specs.Text.{VerbatimAt, TextAt}
 use Rattle.sexp.proofs.DecimalLaws.{digit-is, onto-small, onto-length, onto-first, decimal-once, no-leading-zero, NoDigit}
 use Rattle.sexp.proofs.NumberLaws.{drop-here}
 use Rattle.sexp.proofs.SpellLaws.{verbatim-length, verbatim-once}

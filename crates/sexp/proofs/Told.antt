@@ -13,7 +13,7 @@ use Rattle.basics.specs.Choice.{choose}
 use Rattle.sexp.specs.declared.carrier.Carrier.{Carrier}
 use Rattle.sexp.specs.declared.carrier.Carrier.the-variants.{Sound, Fault, Deep}
 use Rattle.sexp.specs.Decimal.{decimalOnto, isDigit}
-use Rattle.sexp.specs.Sexp.{Sexp, Sexps, str, hinted, list, nil, cons, spellOnto, spellsOnto, spell, verbatimOnto}
+use Rattle.sexp.specs.Sexp.{Sexp, Sexps, str, hinted, list, nil, cons, spellOnto, spellsOnto, verbatimOnto}
 use Rattle.sexp.specs.Known.{Known, Knowns}
 use Rattle.sexp.specs.Scan.{Then, after, shut, State, due, string, number, owed, digit, begin, step, deeper, note, ended, scan}
 use Rattle.sexp.specs.Meaning.{Octets}

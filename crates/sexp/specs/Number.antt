@@ -2,7 +2,7 @@
 -- word: no file is that long, so no answer depends on it.
 use Prim.Native.Nat.{ℕ, _<_, _≤_, min}
 use mathlib.Core.Path.{_≡_}
-use mathlib.Core.Bool.{Bool, false}
+use mathlib.Core.Bool.{false}
 use mathlib.Core.List.{List}
 use lib.ListN.{length, drop, getD}
 use Rattle.sexp.specs.Decimal.{decimalOnto, isDigit}

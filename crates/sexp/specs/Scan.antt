@@ -1,7 +1,7 @@
 -- The carrier's judgement of a file, byte by byte (document 01, "The carrier and the words", refusals 2 and 3): a machine whose states say what is due.
 -- Whether display hints are read, and how deep lists may nest, are parameters. What the answers mean is said in Meaning; the size of a file is no matter here.
 use Prim.Native.Nat.{ℕ, zero, suc, _+_, _-_, _*_}
-use mathlib.Core.Bool.{Bool, true, false, _&&_}
+use mathlib.Core.Bool.{Bool, false, _&&_}
 use mathlib.Core.List.{List, [], _∷_}
 use mathlib.Core.Option.{Option, none, some}
 use lib.Dec.{ltb, eqb}

@@ -1,7 +1,7 @@
 -- What stands in bytes where a string is looked for: the string and where it ends, or that none stands there and how far the bytes could have begun one.
 use Prim.Native.Nat.{ℕ, _+_, _<_, _≤_}
 use mathlib.Core.Path.{_≡_}
-use mathlib.Core.Bool.{Bool, true}
+use mathlib.Core.Bool.{Bool}
 use mathlib.Core.List.{List, _++_}
 use mathlib.Core.Option.{Option}
 use lib.ListN.{length, drop, getD}

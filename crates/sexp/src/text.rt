@@ -1,8 +1,7 @@
 // Strings in bytes (document 01, "The carrier and the words"): where the one at an offset ends, or where the bytes stop being one.
 use crate::decimal::digit;
 use crate::decimal::number;
-ghost use mathlib.Core.Path.{_≡_};
-ghost use Prim.Native.Nat.{ℕ, _<_, _≤_};
+ghost use Prim.Native.Nat.{_<_, _≤_};
 ghost use lib.ListN.{length};
 ghost use Rattle.sexp.specs.Text.{VerbatimAt, TextAt};
 

@@ -1,6 +1,6 @@
+-- `cases` (src/main.rt): each case ends further on, so the loop ends.
 use Prim.Native.Nat.{_-_}
 use lib.ListN.{length}
-use native.Mathlib.Omega.{arith}
 use borrow.Author.Needs.{needs}
 use Rattle.carrier_cases.proofs.cases.Statement.{statement}
 use Rattle.carrier_cases.proofs.cases.Tie as tie

@@ -1,3 +1,4 @@
+-- `string` (src/main.rt): the string that `plain` finds lies inside the case file and is not empty.
 use Rattle.sexp.specs.Sexp.{str}
 use Rattle.sexp.specs.Strings.{Plain}
 use Rattle.sexp.proofs.OntoLaws.{spell-some}

@@ -1,3 +1,4 @@
+-- `canonical` (src/carrier.rt): what is due at each turn of the loop is `item lists`, and the judgement from there on is the judgement of the file.
 use mathlib.Core.Path.{_≡_, sym, ap, _∙_}
 use Prim.Native.Nat.{ℕ, _+_, _-_, _<_, _≤_}
 use lib.ListN.{length, drop}

@@ -1,5 +1,5 @@
+-- `deepen` (src/carrier.rt): each verdict so far, after a list is opened.
 use Rattle.sexp.proofs.CarrierLaws.{deeper-here, deeper-not, deeper-fault, deeper-deep}
-use native.Mathlib.Omega.{arith}
 use borrow.Author.Needs.{needs}
 use Rattle.sexp.proofs.carrier.deepen.Statement.{statement}
 use Rattle.sexp.proofs.carrier.deepen.Tie as tie

@@ -1,6 +1,5 @@
+-- `finish` (src/carrier.rt): the end of the file, or a byte too many.
 use Rattle.sexp.proofs.CarrierLaws.{finish-end, finish-more}
-use native.Mathlib.Omega.{arith}
-use borrow.Author.Needs.{needs}
 use Rattle.sexp.proofs.carrier.finish.Statement.{statement}
 use Rattle.sexp.proofs.carrier.finish.Tie as tie
 use Rattle.sexp.proofs.carrier.finish.Reads as reads

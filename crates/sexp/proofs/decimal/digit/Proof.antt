@@ -1,6 +1,5 @@
+-- `digit` (src/decimal.rt): its two tests are `isDigit`.
 use Rattle.sexp.proofs.NumberLaws.{digit-tests, digit-first}
-use native.Mathlib.Omega.{arith}
-use borrow.Author.Needs.{needs}
 use Rattle.sexp.proofs.decimal.digit.Statement.{statement}
 use Rattle.sexp.proofs.decimal.digit.Tie as tie
 use Rattle.sexp.proofs.decimal.digit.Reads as reads

@@ -1,8 +1,9 @@
+-- `number` (src/decimal.rt): the digits so far are `Digits`; each way out of the loop is one law of NumberLaws.
 use mathlib.Core.Path.{sym, _∙_}
 use borrow.Author.Tests.{not-true, not-false}
 use Prim.Native.Nat.{_-_}
 use lib.ListN.{length, getD}
-use Rattle.sexp.specs.Number.{Digits, Number}
+use Rattle.sexp.specs.Number.{Digits}
 use Rattle.sexp.proofs.DecimalLaws.{digit-low, digit-high}
 use Rattle.sexp.proofs.NumberLaws.{digits-start, digits-more, over-zero, over-digit, over-end}
 use native.Mathlib.Omega.{arith}

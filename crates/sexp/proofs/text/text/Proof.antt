@@ -1,8 +1,9 @@
+-- `text` (src/text.rt): hints not read, no bracket, or a hint and what follows it; each answer is one law of TextLaws.
 use mathlib.Core.Path.{subst}
 use Prim.Native.Nat.{_+_, _<_, _≤_}
 use lib.ListN.{length}
 use borrow.Author.Tests.{not-true, not-false}
-use Rattle.sexp.specs.declared.text.Reading.the-variants.{Spans, Stuck}
+use Rattle.sexp.specs.declared.text.Reading.the-variants.{Spans}
 use Rattle.sexp.specs.Text.{VerbatimAt}
 use Rattle.sexp.proofs.TextLaws.{text-unread, text-unhinted, hint-stuck, hint-inside, hint-end, hint-open, hint-text}
 use native.Mathlib.Omega.{arith}

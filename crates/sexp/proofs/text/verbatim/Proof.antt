@@ -1,3 +1,4 @@
+-- `verbatim` (src/text.rt): each answer is one law of TextLaws.
 use mathlib.Core.Path.{sym, _∙_}
 use borrow.Author.Tests.{not-true, not-false}
 use Rattle.sexp.proofs.TextLaws.{stuck-end, stuck-digit, stuck-number, stuck-colon, stuck-octets, spans}
