@@ -13,3 +13,4 @@ pub mod Table
 pub mod PacketB
 pub mod NotUniform
 pub mod SetLaws
+pub mod TypedLaws

@@ -1,5 +1,6 @@
 -- Every strip that is a proof of a packet stands for a uniform derivation without cut in Figure 1, rules on the left in any order and goal on the right, over the packet's signature
 -- (document 01, demand 3 and "What the desk judges").
+use Prim.Native.Nat.{ℕ}
 use mathlib.Core.Path.{_≡_, sym, subst}
 use mathlib.Core.List.{List, [], _∷_, map, List·Permᴰ·nil, List·Permᴰ·cons, List·Permᴰ·trans, Permᴰ·symm}
 use native.Mathlib.Omega.{arith}
@@ -8,7 +9,9 @@ use Rattle.harrop.specs.Formula.{Term, Goal, Clause, Strip}
 use Rattle.harrop.specs.Bindings.{valueOf}
 use Rattle.harrop.specs.Place.{Plain, listed, atStart, root}
 use Rattle.harrop.specs.Proves.{ProvesAt}
+use Rattle.harrop.specs.Check.{Judged, checkAt}
 use Rattle.harrop.specs.Scoped.{Fair}
+use Rattle.harrop.proofs.Judgement.{accepted-is-a-proof}
 use Rattle.calculus.specs.Formula.{Formula}
 use Rattle.calculus.specs.Substitution.{inFormula}
 use Rattle.calculus.specs.Multiset.{_≈_}
@@ -42,3 +45,7 @@ module _ (ds : List (Clause Plain)) (g : Goal Plain) (ts : List Term) (f : Fair 
       subst (UniformProof (packetSignature ds g ts) Γ) (stands ts (goalFormula g) (packet-closed ds g ts f .0))
       (in-any-order (List·Permᴰ·trans (rules-stand ts ds (packet-closed ds g ts f .1)) (Permᴰ·symm w))
       (derived (packetSymbols ds g ts) (listed ts) (packet-apt ds g ts f) (root ds g) P p root-typed))
+
+  -- and so does every strip that the check of trees accepts
+  pub accepted-derived : (P : Strip) (h m : ℕ) → checkAt (listed ts) (root ds g) P ≡ Judged.fits h m → (Γ : List (Formula Plain)) → Γ ≈ map clauseFormula ds → UniformProof (packetSignature ds g ts) Γ (goalFormula g)
+  accepted-derived P h m e = packet-derived P (accepted-is-a-proof (listed ts) (root ds g) P h m e .0)
