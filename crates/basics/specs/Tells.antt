@@ -1,5 +1,4 @@
 -- A test whose answer decides a statement: yes says it, and no refutes it. So no two answers are right.
-use Prim.Native.Nat.{ℕ}
 use mathlib.Core.Path.{_≡_, refl, subst}
 use mathlib.Core.Bool.{Bool, true, false}
 

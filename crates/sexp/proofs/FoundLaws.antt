@@ -1,9 +1,8 @@
 -- Where it is known what stands at an offset, each function's answer there is known. For callers that read bytes of which they know the expression.
-use Prim.Native.Nat.{ℕ, _+_, _-_, _≤_}
+use Prim.Native.Nat.{ℕ, _+_, _≤_}
 use mathlib.Core.Path.{_≡_, refl, sym, _∙_, ap, subst}
 use mathlib.Core.Bool.{Bool, true, false, false≢true}
-use mathlib.Core.List.{List, []}
-use native.Mathlib.Omega.{arith}
+use mathlib.Core.List.{List}
 use lib.ListN.{length, take, drop}
 use Rattle.basics.specs.Tells.{Tells, tells-once, tells-as}
 use Rattle.sexp.specs.declared.skip.After.{After}

@@ -1,5 +1,5 @@
 -- A number of one to three digits where it is read: how long it is, and when octets are one. From document 01, "A number has one to three digits and no leading zero".
-use Prim.Native.Nat.{ℕ, _+_, _-_, _*_, _/_, _%_, _≤_, _<_, min}
+use Prim.Native.Nat.{ℕ, _+_, _*_, _/_, _%_, _≤_, _<_}
 use mathlib.Core.Path.{_≡_, refl, sym, _∙_, ap}
 use mathlib.Core.Bool.{Bool, true, false, false≢true}
 use mathlib.Core.List.{List, [], _∷_}
@@ -9,7 +9,7 @@ use lib.ListN.{length, getD, drop, length-drop}
 use lib.Seq.{drop-length}
 use borrow.Author.Tests.{ltb-true, ltb-false}
 use Rattle.sexp.specs.Decimal.{decimalOnto, decimal, isDigit}
-use Rattle.sexp.specs.Number.{largest, Digits, Number}
+use Rattle.sexp.specs.Number.{Number}
 use Rattle.sexp.specs.Words.{isNumber, worth}
 use Rattle.sexp.proofs.DecimalLaws.{digit-is, onto-small, onto-step, onto-length, onto-first}
 use Rattle.sexp.proofs.TextLaws.{number-read}

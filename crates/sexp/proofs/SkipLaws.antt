@@ -1,9 +1,9 @@
 -- Going past an expression: a string, a hinted string, or a list whose members are passed one after the other.
 -- From document 01, "comparing and skipping nested terms in bytes, remaining nesting falls".
-use Prim.Native.Nat.{ℕ, _+_, _-_, _<_, _≤_, max}
+use Prim.Native.Nat.{ℕ, _+_, _-_, _<_, _≤_}
 use mathlib.Core.Path.{_≡_, refl, sym, _∙_, ap, ap₂, subst}
 use mathlib.Core.Bool.{true}
-use mathlib.Core.List.{List, [], _∷_, _++_}
+use mathlib.Core.List.{List}
 use mathlib.Core.Option.{Option, none, some}
 use native.Mathlib.Omega.{arith}
 use lib.ListN.{length, getD, take, drop, length-drop}
@@ -14,12 +14,12 @@ use Rattle.sexp.specs.declared.text.Reading.{Reading}
 use Rattle.sexp.specs.declared.text.Reading.the-variants.{Spans, Stuck}
 use Rattle.sexp.specs.Sexp.{Sexp, Sexps, str, hinted, list, nil, cons, spellOnto, spell, spells, nesting, nestings, Stands, StandsAll}
 use Rattle.sexp.specs.Known.{Known, textOf}
-use Rattle.sexp.specs.Text.{Span, VerbatimAt, TextAt}
+use Rattle.sexp.specs.Text.{VerbatimAt, TextAt}
 use Rattle.sexp.specs.Strings.{Plain}
 use Rattle.sexp.specs.Past.{Ends, PastAt}
 use Rattle.sexp.proofs.SpellLaws.{spell-length}
 use Rattle.sexp.proofs.OntoLaws.{spell-some}
-use Rattle.sexp.proofs.StandLaws.{byte-inside, none-closes, stands-inside, stands-once, list-opens, members-stand, first-stands, others-stand, list-stands, none-stand, more-stand, opens-list, opens-not, list-length, cons-length}
+use Rattle.sexp.proofs.StandLaws.{byte-inside, none-closes, stands-inside, stands-once, members-stand, first-stands, others-stand, list-stands, none-stand, more-stand, opens-list, opens-not, list-length, cons-length}
 
 -- a plain string that is read, and one that is not
 pub plain-spans : (s : List ℕ) (at from to : ℕ) (r : Reading) → r ≡ Spans from to → VerbatimAt s at r → Plain s at from (to - from)

@@ -1,7 +1,7 @@
 -- What stands at an offset of any bytes: only one expression does, and a list's members stand one after the other up to its closing parenthesis.
 -- Offsets are those that a reader of the bytes computes: `at + 1` after a parenthesis, `at + length (spell x)` after an expression.
 -- From document 01, "The carrier and the words": a list is its members between parentheses; nothing lies between members.
-use Prim.Native.Nat.{ℕ, _+_, _-_, _<_, _≤_}
+use Prim.Native.Nat.{ℕ, _+_, _<_, _≤_}
 use mathlib.Core.Path.{_≡_, refl, sym, _∙_, ap}
 use mathlib.Core.Bool.{Bool, true, false}
 use mathlib.Core.List.{List, [], _∷_, _++_}
@@ -14,7 +14,7 @@ use Rattle.sexp.specs.Sexp.{Sexp, Sexps, str, hinted, list, nil, cons, s
 use Rattle.sexp.proofs.DecimalLaws.{onto-first}
 use Rattle.sexp.proofs.NumberLaws.{drop-here}
 use Rattle.sexp.proofs.SpellLaws.{spell-once, spells-once, spell-length, spells-length, spell-first, verbatim-once}
-use Rattle.sexp.proofs.OntoLaws.{spell-past, spells-past, spell-some}
+use Rattle.sexp.proofs.OntoLaws.{spell-past, spell-some}
 
 -- the byte at an offset, and the bytes after it, where the bytes from there on are known
 pub byte-at : (s : List ℕ) (at : ℕ) (w : List ℕ) → drop at s ≡ w → getD s at 0 ≡ getD w 0 0

@@ -4,12 +4,12 @@ use mathlib.Core.Path.{_≡_, refl, sym, _∙_, ap, subst}
 use mathlib.Core.Bool.{Bool, true, false, false≢true}
 use mathlib.Core.List.{List}
 use native.Mathlib.Omega.{arith}
-use lib.ListN.{length, take, drop}
+use lib.ListN.{take, drop}
 use Rattle.basics.specs.Tells.{Tells, tells-as}
 use Rattle.sexp.specs.declared.words.Value.{Value}
 use Rattle.sexp.specs.declared.words.Value.the-variants.{Is, Nothing}
 use Rattle.sexp.specs.Decimal.{decimal}
-use Rattle.sexp.specs.Sexp.{Sexp, str, Stands}
+use Rattle.sexp.specs.Sexp.{str, Stands}
 use Rattle.sexp.specs.Strings.{Plain}
 use Rattle.sexp.specs.Words.{isName, isNumber, worth}
 use Rattle.sexp.specs.WordsAt.{Named, Shared, Numeral, NumberAt, NumeralOf}

@@ -1,6 +1,6 @@
 -- Canonical S-expressions of RFC 9804, how they are spelt, and how deep they nest (document 01, "The carrier and the words", "Sizes").
 -- A string with a display hint is an expression like any other here. That document 01 refuses one is a matter of the carrier's judgement alone.
-use Prim.Native.Nat.{ℕ, zero, suc, _+_, max}
+use Prim.Native.Nat.{ℕ, _+_, max}
 use mathlib.Core.Path.{_≡_}
 use mathlib.Core.List.{List, [], _∷_, _++_}
 use lib.ListN.{length, drop}

@@ -5,7 +5,7 @@ use mathlib.Core.Bool.{true}
 use mathlib.Core.List.{List}
 use Rattle.sexp.specs.declared.words.Value.{Value}
 use Rattle.sexp.specs.declared.words.Value.the-variants.{Is, Nothing}
-use Rattle.sexp.specs.Sexp.{Sexp, str, Stands}
+use Rattle.sexp.specs.Sexp.{str, Stands}
 use Rattle.sexp.specs.Words.{isName, isNumber, worth}
 
 -- a name stands at an offset

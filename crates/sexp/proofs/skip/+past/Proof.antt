@@ -1,3 +1,4 @@
+-- `past` meets its contract. What is left of the nesting falls at each call; the loop passes the members of one list (`Going`), and the bytes left fall.
 use mathlib.Core.Path.{sym, _∙_}
 use borrow.Author.Tests.{eqb-true, eqb-false, not-true, not-false}
 use lib.ListN.{length}
@@ -33,55 +34,42 @@ past-Inv-loop s at nest i₀ i = Going s at (nest - 1) i
 abbrev past-μ-loop : past-lts.MeasureT-loop
 past-μ-loop s at nest i₀ i = length s - i
 
--- src/skip.rt:48:9
 past-opens-requires : (t : ℕ) → past-lts.Need-opens-requires (opens-reads.Asked, opens-reads.Learnt, past-string-reads.Asked, past-string-reads.Learnt, closes-reads.Asked, closes-reads.Learnt, past-below t, past.Post) (past-at t) past.Post past-Inv-loop past-μ-loop
 past-opens-requires t c κs = search needs
 
--- src/skip.rt:49:9
 past-past-string-requires : (t : ℕ) → past-lts.Need-past-string-requires (opens-reads.Asked, opens-reads.Learnt, past-string-reads.Asked, past-string-reads.Learnt, closes-reads.Asked, closes-reads.Learnt, past-below t, past.Post) (past-at t) past.Post past-Inv-loop past-μ-loop
 past-past-string-requires t c κs = search needs
 
--- src/skip.rt:49:9
 past-returns : (t : ℕ) → past-lts.Need-returns (opens-reads.Asked, opens-reads.Learnt, past-string-reads.Asked, past-string-reads.Learnt, closes-reads.Asked, closes-reads.Learnt, past-below t, past.Post) (past-at t) past.Post past-Inv-loop past-μ-loop
 past-returns t c = past-flat (c .before .before .before .before .args .s .now) (c .before .before .before .before .args .at) (c .before .before .before .before .args .nest) (c .past-string .result) (eqb-false _ _ (sym (c .before .before .opens .ensures) ∙ not-true _ (c .before .if1 .taken))) (c .past-string .ensures)
 
--- src/skip.rt:52:9
 past-returns-2 : (t : ℕ) → past-lts.Need-returns-2 (opens-reads.Asked, opens-reads.Learnt, past-string-reads.Asked, past-string-reads.Learnt, closes-reads.Asked, closes-reads.Learnt, past-below t, past.Post) (past-at t) past.Post past-Inv-loop past-μ-loop
 past-returns-2 t c = past-deep (c .before .before .before .before .args .s .now) (c .before .before .before .before .args .at) (c .before .before .before .before .args .nest) (eqb-true _ _ (sym (c .before .before .opens .ensures) ∙ not-false _ (c .before .if1 .left))) (c .if2 .taken)
 
--- src/skip.rt:54:17
 past-add-i : (t : ℕ) → past-lts.Need-add-i (opens-reads.Asked, opens-reads.Learnt, past-string-reads.Asked, past-string-reads.Learnt, closes-reads.Asked, closes-reads.Learnt, past-below t, past.Post) (past-at t) past.Post past-Inv-loop past-μ-loop
 past-add-i t c = let k = byte-inside (c .before .before .before .before .args .s .now) (c .before .before .before .before .args .at) 40 (eqb-true _ _ (sym (c .before .before .opens .ensures) ∙ not-false _ (c .before .if1 .left))) (omega arith) in omega arith
 
--- src/skip.rt:55:5
 past-loop-holds : (t : ℕ) → past-lts.Need-loop-holds (opens-reads.Asked, opens-reads.Learnt, past-string-reads.Asked, past-string-reads.Learnt, closes-reads.Asked, closes-reads.Learnt, past-below t, past.Post) (past-at t) past.Post past-Inv-loop past-μ-loop
 past-loop-holds t c = going-start (c .before .before .before .before .args .s .now) (c .before .before .before .before .args .at) (c .before .before .before .before .args .nest - 1) (eqb-true _ _ (sym (c .before .before .opens .ensures) ∙ not-false _ (c .before .if1 .left)))
 
--- src/skip.rt:55:12
 past-closes-requires : (t : ℕ) → past-lts.Need-closes-requires (opens-reads.Asked, opens-reads.Learnt, past-string-reads.Asked, past-string-reads.Learnt, closes-reads.Asked, closes-reads.Learnt, past-below t, past.Post) (past-at t) past.Post past-Inv-loop past-μ-loop
 past-closes-requires t c κs = search needs
 
--- src/skip.rt:56:26
 past-sub-past : (t : ℕ) → past-lts.Need-sub-past (opens-reads.Asked, opens-reads.Learnt, past-string-reads.Asked, past-string-reads.Learnt, closes-reads.Asked, closes-reads.Learnt, past-below t, past.Post) (past-at t) past.Post past-Inv-loop past-μ-loop
 past-sub-past t c = search needs
 
--- src/skip.rt:56:15
 past-past-requires : (t : ℕ) → past-lts.Need-past-requires (opens-reads.Asked, opens-reads.Learnt, past-string-reads.Asked, past-string-reads.Learnt, closes-reads.Asked, closes-reads.Learnt, past-below t, past.Post) (past-at t) past.Post past-Inv-loop past-μ-loop
 past-past-requires t c κs = search needs
 
--- src/skip.rt:58:17
 past-enum-told : (t : ℕ) → past-lts.Need-enum-told (opens-reads.Asked, opens-reads.Learnt, past-string-reads.Asked, past-string-reads.Learnt, closes-reads.Asked, closes-reads.Learnt, past-below t, past.Post) (past-at t) past.Post past-Inv-loop past-μ-loop
 past-enum-told t c = search needs
 
--- src/skip.rt:58:17
 past-returns-3 : (t : ℕ) → past-lts.Need-returns-3 (opens-reads.Asked, opens-reads.Learnt, past-string-reads.Asked, past-string-reads.Learnt, closes-reads.Asked, closes-reads.Learnt, past-below t, past.Post) (past-at t) past.Post past-Inv-loop past-μ-loop
 past-returns-3 t c = past-stop (c .before .before .before .before .before .before .before .before .before .before .args .s .now) (c .before .before .before .before .before .before .before .before .before .before .args .at) (c .before .before .before .before .before .before .before .before .before .before .args .nest) (c .before .before .before .before .before .loop .i) (eqb-true _ _ (sym (c .before .before .before .before .before .before .before .before .opens .ensures) ∙ not-false _ (c .before .before .before .before .before .before .before .if1 .left))) (c .before .before .before .before .before .before .if2 .left) (c .before .before .before .before .before .loop .inv) (eqb-false _ _ (sym (c .before .before .before .before .closes .ensures) ∙ not-true _ (c .before .before .before .if3 .taken))) (past-nothing (c .enum-told .given .1) (c .before .before .past .ensures))
 
--- src/skip.rt:60:25
 past-enum-known-n : (t : ℕ) → past-lts.Need-enum-known-n (opens-reads.Asked, opens-reads.Learnt, past-string-reads.Asked, past-string-reads.Learnt, closes-reads.Asked, closes-reads.Learnt, past-below t, past.Post) (past-at t) past.Post past-Inv-loop past-μ-loop
 past-enum-known-n t c = search needs
 
--- src/skip.rt:55:5
 past-loop-less : (t : ℕ) → past-lts.Need-loop-less (opens-reads.Asked, opens-reads.Learnt, past-string-reads.Asked, past-string-reads.Learnt, closes-reads.Asked, closes-reads.Learnt, past-below t, past.Post) (past-at t) past.Post past-Inv-loop past-μ-loop
 past-loop-less t c =
     let h = past-next (c .before .n .given .1) (c .before .before .before .past .ensures) in
@@ -90,15 +78,12 @@ past-loop-less t c =
     let z = g .inside in
     omega arith
 
--- src/skip.rt:55:5
 past-loop-again : (t : ℕ) → past-lts.Need-loop-again (opens-reads.Asked, opens-reads.Learnt, past-string-reads.Asked, past-string-reads.Learnt, closes-reads.Asked, closes-reads.Learnt, past-below t, past.Post) (past-at t) past.Post past-Inv-loop past-μ-loop
 past-loop-again t c = going-on (c .before .before .before .before .before .before .before .before .before .before .before .args .s .now) (c .before .before .before .before .before .before .before .before .before .before .before .args .at) (c .before .before .before .before .before .before .before .before .before .before .before .args .nest - 1) (c .before .before .before .before .before .before .loop .i) (c .before .before .before .before .before .before .loop .inv) (c .before .n .given .0 .0) (eqb-false _ _ (sym (c .before .before .before .before .before .closes .ensures) ∙ not-true _ (c .before .before .before .before .if3 .taken))) (past-next (c .before .n .given .1) (c .before .before .before .past .ensures))
 
--- src/skip.rt:65:17
 past-add-t12 : (t : ℕ) → past-lts.Need-add-t12 (opens-reads.Asked, opens-reads.Learnt, past-string-reads.Asked, past-string-reads.Learnt, closes-reads.Asked, closes-reads.Learnt, past-below t, past.Post) (past-at t) past.Post past-Inv-loop past-μ-loop
 past-add-t12 t c = let k = byte-inside (c .before .before .before .before .before .before .before .args .s .now) (c .before .before .loop .i) 41 (eqb-true _ _ (sym (c .before .closes .ensures) ∙ not-false _ (c .if3 .left))) (omega arith) in omega arith
 
--- src/skip.rt:45:1
 past-returns-4 : (t : ℕ) → past-lts.Need-returns-4 (opens-reads.Asked, opens-reads.Learnt, past-string-reads.Asked, past-string-reads.Learnt, closes-reads.Asked, closes-reads.Learnt, past-below t, past.Post) (past-at t) past.Post past-Inv-loop past-μ-loop
 past-returns-4 t c = past-list (c .before .before .before .before .before .before .before .args .s .now) (c .before .before .before .before .before .before .before .args .at) (c .before .before .before .before .before .before .before .args .nest) (c .before .before .loop .i) (eqb-true _ _ (sym (c .before .before .before .before .before .opens .ensures) ∙ not-false _ (c .before .before .before .before .if1 .left))) (c .before .before .before .if2 .left) (c .before .before .loop .inv) (eqb-true _ _ (sym (c .before .closes .ensures) ∙ not-false _ (c .if3 .left)))
 

@@ -1,21 +1,16 @@
+-- `byte` meets its contract: past the end the byte counts as 0.
 use mathlib.Core.Path.{sym}
 use lib.ListN.{List·getD-eq-default}
-use native.Mathlib.Omega.{arith}
 use borrow.Author.Needs.{needs}
 use Rattle.sexp.proofs.strings.byte.Statement.{statement}
 use Rattle.sexp.proofs.strings.byte.Tie as tie
-use Rattle.sexp.proofs.strings.byte.Reads as reads
-use Rattle.sexp.proofs.strings.byte.Lts as lts
 
--- src/strings.rt:19:23
 shared-slice-read-result : tie.Need-shared-slice-read-result
 shared-slice-read-result c = search needs
 
--- src/strings.rt:16:1
 returns : tie.Need-returns
 returns c = search needs
 
--- src/strings.rt:16:1
 returns-2 : tie.Need-returns-2
 returns-2 c = sym (List·getD-eq-default (c .before .args .s .now) 0 (c .if1 .left))
 

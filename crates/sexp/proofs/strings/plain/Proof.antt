@@ -1,38 +1,29 @@
+-- `plain` meets its contract: it is what `verbatim` reads, at any offset.
 use Rattle.sexp.proofs.StandLaws.{stands-before}
 use Rattle.sexp.proofs.SkipLaws.{plain-spans, plain-order, plain-stuck}
 use native.Mathlib.Omega.{arith}
 use borrow.Author.Needs.{needs}
 use Rattle.sexp.proofs.strings.plain.Statement.{statement}
 use Rattle.sexp.proofs.strings.plain.Tie as tie
-use Rattle.sexp.proofs.strings.plain.Reads as reads
-use Rattle.sexp.proofs.strings.plain.Lts as lts
-use Rattle.sexp.proofs.text.verbatim.Reads as verbatim-reads
 
--- src/strings.rt:41:9
 returns : tie.Need-returns
 returns c = λ w h. let k = stands-before h in omega arith
 
--- src/strings.rt:43:11
 verbatim-requires : tie.Need-verbatim-requires
 verbatim-requires c κs = search needs
 
--- src/strings.rt:44:30
 enum-told : tie.Need-enum-told
 enum-told c = search needs
 
--- src/strings.rt:45:26
 enum-known-from : tie.Need-enum-known-from
 enum-known-from c = search needs
 
--- src/strings.rt:45:59
 sub-t9 : tie.Need-sub-t9
 sub-t9 c = let x = c .before .before .before .before .before .before .args in let r = c .before .from .given in let k = plain-order (x .s .now) (x .at) (r .0 .0) (r .0 .1 .0) (c .before .before .before .verbatim .result) (r .1) (c .before .before .before .verbatim .ensures) in omega arith
 
--- src/strings.rt:37:1
 returns-2 : tie.Need-returns-2
 returns-2 c = let x = c .before .before .before .before .before .args in plain-stuck (x .s .now) (x .at) (c .enum-told .given .0 .0) (c .before .before .verbatim .result) (c .enum-told .given .1) (c .before .before .verbatim .ensures)
 
--- src/strings.rt:37:1
 returns-3 : tie.Need-returns-3
 returns-3 c = let x = c .before .before .before .before .before .before .args in let r = c .before .from .given in plain-spans (x .s .now) (x .at) (r .0 .0) (r .0 .1 .0) (c .before .before .before .verbatim .result) (r .1) (c .before .before .before .verbatim .ensures)
 

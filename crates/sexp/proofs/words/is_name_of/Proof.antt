@@ -1,16 +1,12 @@
+-- `is_name_of` meets its contract. The loop: the octets after the first are passed (`Naming`).
 use Prim.Native.Nat.{_-_}
 use mathlib.Core.Path.{sym, _∙_}
 use lib.ListN.{length}
 use borrow.Author.Tests.{not-true, not-false}
 use Rattle.sexp.proofs.NameLaws.{Naming, name-none, name-long, name-first, naming-start, naming-on, name-other, name-end}
-use native.Mathlib.Omega.{arith}
 use borrow.Author.Needs.{needs}
 use Rattle.sexp.proofs.words.is_name_of.Statement.{statement}
 use Rattle.sexp.proofs.words.is_name_of.Tie as tie
-use Rattle.sexp.proofs.words.is_name_of.Reads as reads
-use Rattle.sexp.proofs.words.is_name_of.Lts as lts
-use Rattle.sexp.proofs.words.letter.Reads as letter-reads
-use Rattle.sexp.proofs.words.name_octet.Reads as name-octet-reads
 
 abbrev Inv-loop : tie.InvT-loop
 Inv-loop w i₀ i = Naming w i
@@ -18,55 +14,42 @@ Inv-loop w i₀ i = Naming w i
 abbrev μ-loop : tie.MeasureT-loop
 μ-loop w i₀ i = length w - i
 
--- src/words.rt:78:9
 returns : tie.Need-returns Inv-loop μ-loop
 returns c = name-none (c .before .before .args .w .now) (c .if1 .taken)
 
--- src/words.rt:81:9
 returns-2 : tie.Need-returns-2 Inv-loop μ-loop
 returns-2 c = name-long (c .before .before .before .args .w .now) (c .if2 .taken)
 
--- src/words.rt:83:16
 shared-slice-read-letter : tie.Need-shared-slice-read-letter Inv-loop μ-loop
 shared-slice-read-letter c = search needs
 
--- src/words.rt:83:9
 letter-requires : tie.Need-letter-requires Inv-loop μ-loop
 letter-requires c κs = search needs
 
--- src/words.rt:84:9
 returns-3 : tie.Need-returns-3 Inv-loop μ-loop
 returns-3 c = name-first (c .before .before .before .before .before .before .args .w .now) (c .before .before .before .before .if1 .left) (sym (c .before .letter .ensures) ∙ not-true _ (c .if3 .taken))
 
--- src/words.rt:87:5
 loop-holds : tie.Need-loop-holds Inv-loop μ-loop
 loop-holds c = naming-start (c .before .before .before .before .before .before .args .w .now) (c .before .before .before .before .if1 .left)
 
--- src/words.rt:88:24
 shared-slice-read-name-octet : tie.Need-shared-slice-read-name-octet Inv-loop μ-loop
 shared-slice-read-name-octet c = search needs
 
--- src/words.rt:88:13
 name-octet-requires : tie.Need-name-octet-requires Inv-loop μ-loop
 name-octet-requires c κs = search needs
 
--- src/words.rt:89:13
 returns-4 : tie.Need-returns-4 Inv-loop μ-loop
 returns-4 c = name-other (c .before .before .before .before .before .before .before .before .before .before .before .args .w .now) (c .before .before .before .before .loop .i) (c .before .before .before .before .loop .inv) (c .before .before .before .loop-test .taken) (sym (c .before .name-octet .ensures) ∙ not-true _ (c .if4 .taken))
 
--- src/words.rt:91:9
 add-i : tie.Need-add-i Inv-loop μ-loop
 add-i c = search needs
 
--- src/words.rt:87:5
 loop-less : tie.Need-loop-less Inv-loop μ-loop
 loop-less c = search needs
 
--- src/words.rt:87:5
 loop-again : tie.Need-loop-again Inv-loop μ-loop
 loop-again c = naming-on (c .before .before .before .before .before .before .before .before .before .before .before .args .w .now) (c .before .before .before .before .loop .i) (c .before .before .before .before .loop .inv) (c .before .before .before .loop-test .taken) (sym (c .before .name-octet .ensures) ∙ not-false _ (c .if4 .left))
 
--- src/words.rt:74:1
 returns-5 : tie.Need-returns-5 Inv-loop μ-loop
 returns-5 c = name-end (c .before .before .before .before .before .before .before .before .args .w .now) (c .before .loop .i) (c .before .loop .inv) (c .loop-test .left) (c .before .before .before .before .before .if2 .left) (sym (c .before .before .before .letter .ensures) ∙ not-false _ (c .before .before .if3 .left))
 

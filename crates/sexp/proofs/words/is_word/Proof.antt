@@ -1,51 +1,38 @@
+-- `is_word` meets its contract: the octets of the plain string there are the word.
 use Rattle.sexp.proofs.AnswerLaws.{plain-span, plain-nothing, plain-inside}
 use Rattle.sexp.proofs.WordsAtLaws.{word-told}
 use native.Mathlib.Omega.{arith}
 use borrow.Author.Needs.{needs}
 use Rattle.sexp.proofs.words.is_word.Statement.{statement}
 use Rattle.sexp.proofs.words.is_word.Tie as tie
-use Rattle.sexp.proofs.words.is_word.Reads as reads
-use Rattle.sexp.proofs.words.is_word.Lts as lts
-use Rattle.sexp.proofs.strings.plain.Reads as plain-reads
-use Rattle.sexp.proofs.words.same.Reads as same-reads
 
--- src/words.rt:39:11
 plain-requires : tie.Need-plain-requires
 plain-requires c κs = search needs
 
--- src/words.rt:40:28
 enum-told : tie.Need-enum-told
 enum-told c = search needs
 
--- src/words.rt:41:22
 enum-known-from : tie.Need-enum-known-from
 enum-known-from c = search needs
 
--- src/words.rt:42:22
 add-to : tie.Need-add-to
 add-to c = let k = plain-inside (plain-span (c .before .from .given .1) (c .before .before .before .plain .ensures)) in omega arith
 
--- src/words.rt:43:18
 sub-same : tie.Need-sub-same
 sub-same c = search needs
 
--- src/words.rt:43:18
 part-same-start : tie.Need-part-same-start
 part-same-start c = search needs
 
--- src/words.rt:43:18
 part-same-end : tie.Need-part-same-end
 part-same-end c = let k = plain-inside (plain-span (c .before .from .given .1) (c .before .before .before .plain .ensures)) in omega arith
 
--- src/words.rt:43:13
 same-requires : tie.Need-same-requires
 same-requires c κs = search needs
 
--- src/words.rt:36:1
 returns : tie.Need-returns
 returns c = plain-nothing (c .enum-told .given .1) (c .before .before .plain .ensures) (c .before .before .before .before .before .args .word .now)
 
--- src/words.rt:36:1
 returns-2 : tie.Need-returns-2
 returns-2 c = word-told (c .before .before .before .before .before .before .before .before .args .s .now) (c .before .before .before .before .before .before .before .before .args .at) (c .before .before .before .from .given .0 .0) (c .before .before .before .from .given .0 .1 .0) (plain-span (c .before .before .before .from .given .1) (c .before .before .before .before .before .plain .ensures)) (c .before .before .before .before .before .before .before .before .args .word .now) (c .same .result) (c .same .ensures)
 

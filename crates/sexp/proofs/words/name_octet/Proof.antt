@@ -1,31 +1,22 @@
+-- `name_octet` meets its contract.
 use mathlib.Core.Path.{sym, _∙_}
 use Rattle.sexp.proofs.NameLaws.{octet-letter, octet-digit, octet-other}
-use native.Mathlib.Omega.{arith}
 use borrow.Author.Needs.{needs}
 use Rattle.sexp.proofs.words.name_octet.Statement.{statement}
 use Rattle.sexp.proofs.words.name_octet.Tie as tie
-use Rattle.sexp.proofs.words.name_octet.Reads as reads
-use Rattle.sexp.proofs.words.name_octet.Lts as lts
-use Rattle.sexp.proofs.decimal.digit.Reads as digit-reads
-use Rattle.sexp.proofs.words.letter.Reads as letter-reads
 
--- src/words.rt:70:8
 letter-requires : tie.Need-letter-requires
 letter-requires c κs = search needs
 
--- src/words.rt:71:9
 returns : tie.Need-returns
 returns c = octet-letter (c .before .before .args .b) (sym (c .before .letter .ensures) ∙ c .if1 .taken)
 
--- src/words.rt:73:8
 digit-requires : tie.Need-digit-requires
 digit-requires c κs = search needs
 
--- src/words.rt:74:9
 returns-2 : tie.Need-returns-2
 returns-2 c = octet-digit (c .before .before .before .before .args .b) (sym (c .before .before .before .letter .ensures) ∙ c .before .before .if1 .left) (sym (c .before .digit .ensures) ∙ c .if2 .taken)
 
--- src/words.rt:67:1
 returns-3 : tie.Need-returns-3
 returns-3 c = octet-other (c .before .before .before .before .args .b) (sym (c .before .before .before .letter .ensures) ∙ c .before .before .if1 .left) (sym (c .before .digit .ensures) ∙ c .if2 .left)
 

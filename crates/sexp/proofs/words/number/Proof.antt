@@ -1,51 +1,38 @@
+-- `number` meets its contract: the octets of the plain string there are a number.
 use Rattle.sexp.proofs.AnswerLaws.{plain-span, plain-nothing, plain-inside}
 use Rattle.sexp.proofs.WordsAtLaws.{number-told}
 use native.Mathlib.Omega.{arith}
 use borrow.Author.Needs.{needs}
 use Rattle.sexp.proofs.words.number.Statement.{statement}
 use Rattle.sexp.proofs.words.number.Tie as tie
-use Rattle.sexp.proofs.words.number.Reads as reads
-use Rattle.sexp.proofs.words.number.Lts as lts
-use Rattle.sexp.proofs.strings.plain.Reads as plain-reads
-use Rattle.sexp.proofs.words.number_of.Reads as number-of-reads
 
--- src/words.rt:141:11
 plain-requires : tie.Need-plain-requires
 plain-requires c κs = search needs
 
--- src/words.rt:142:28
 enum-told : tie.Need-enum-told
 enum-told c = search needs
 
--- src/words.rt:143:22
 enum-known-from : tie.Need-enum-known-from
 enum-known-from c = search needs
 
--- src/words.rt:144:22
 add-to : tie.Need-add-to
 add-to c = let k = plain-inside (plain-span (c .before .from .given .1) (c .before .before .before .plain .ensures)) in omega arith
 
--- src/words.rt:145:23
 sub-number-of : tie.Need-sub-number-of
 sub-number-of c = search needs
 
--- src/words.rt:145:23
 part-number-of-start : tie.Need-part-number-of-start
 part-number-of-start c = search needs
 
--- src/words.rt:145:23
 part-number-of-end : tie.Need-part-number-of-end
 part-number-of-end c = let k = plain-inside (plain-span (c .before .from .given .1) (c .before .before .before .plain .ensures)) in omega arith
 
--- src/words.rt:145:13
 number-of-requires : tie.Need-number-of-requires
 number-of-requires c κs = search needs
 
--- src/words.rt:138:1
 returns : tie.Need-returns
 returns c = λ w h e. plain-nothing (c .enum-told .given .1) (c .before .before .plain .ensures) w h
 
--- src/words.rt:138:1
 returns-2 : tie.Need-returns-2
 returns-2 c = number-told (c .before .before .before .before .before .before .before .args .s .now) (c .before .before .before .before .before .before .before .args .at) (c .before .before .before .from .given .0 .0) (c .before .before .before .from .given .0 .1 .0) (plain-span (c .before .before .before .from .given .1) (c .before .before .before .before .before .plain .ensures)) (c .number-of .result) (c .number-of .ensures)
 

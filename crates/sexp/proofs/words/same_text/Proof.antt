@@ -1,51 +1,38 @@
+-- `same_text` meets its contract: the word is the plain string at the other offset.
 use Rattle.sexp.proofs.AnswerLaws.{plain-span, plain-nothing, plain-inside}
 use Rattle.sexp.proofs.WordsAtLaws.{shared-told}
 use native.Mathlib.Omega.{arith}
 use borrow.Author.Needs.{needs}
 use Rattle.sexp.proofs.words.same_text.Statement.{statement}
 use Rattle.sexp.proofs.words.same_text.Tie as tie
-use Rattle.sexp.proofs.words.same_text.Reads as reads
-use Rattle.sexp.proofs.words.same_text.Lts as lts
-use Rattle.sexp.proofs.strings.plain.Reads as plain-reads
-use Rattle.sexp.proofs.words.is_word.Reads as is-word-reads
 
--- src/words.rt:52:11
 plain-requires : tie.Need-plain-requires
 plain-requires c κs = search needs
 
--- src/words.rt:53:28
 enum-told : tie.Need-enum-told
 enum-told c = search needs
 
--- src/words.rt:54:22
 enum-known-from : tie.Need-enum-known-from
 enum-known-from c = search needs
 
--- src/words.rt:55:22
 add-to : tie.Need-add-to
 add-to c = let k = plain-inside (plain-span (c .before .from .given .1) (c .before .before .before .plain .ensures)) in omega arith
 
--- src/words.rt:56:27
 sub-is-word : tie.Need-sub-is-word
 sub-is-word c = search needs
 
--- src/words.rt:56:27
 part-is-word-start : tie.Need-part-is-word-start
 part-is-word-start c = search needs
 
--- src/words.rt:56:27
 part-is-word-end : tie.Need-part-is-word-end
 part-is-word-end c = let k = plain-inside (plain-span (c .before .from .given .1) (c .before .before .before .plain .ensures)) in omega arith
 
--- src/words.rt:56:13
 is-word-requires : tie.Need-is-word-requires
 is-word-requires c κs = search needs
 
--- src/words.rt:49:1
 returns : tie.Need-returns
 returns c = λ h. plain-nothing (c .enum-told .given .1) (c .before .before .plain .ensures) (h .octets) (h .there)
 
--- src/words.rt:49:1
 returns-2 : tie.Need-returns-2
 returns-2 c = shared-told (c .before .before .before .before .before .before .before .before .args .t .now) (c .before .before .before .before .before .before .before .before .args .j) (c .before .before .before .from .given .0 .0) (c .before .before .before .from .given .0 .1 .0) (plain-span (c .before .before .before .from .given .1) (c .before .before .before .before .before .plain .ensures)) (c .before .before .before .before .before .before .before .before .args .s .now) (c .before .before .before .before .before .before .before .before .args .i) (c .is-word .result) (c .is-word .ensures)
 
