@@ -77,7 +77,7 @@ Missed [] k N = N
 Missed (r ∷ rs) k N = Missed rs k (N × (k ≡ keyOf (r .0) → ⊥))
 
 -- two strings that are not equal are not the same
-differ : (v w : List ℕ) → (v ≡ w → ⊥) → sameName v w ≡ false
+pub differ : (v w : List ℕ) → (v ≡ w → ⊥) → sameName v w ≡ false
 differ v w n = go (sameName v w) refl
   where
     go : (b : Bool) → sameName v w ≡ b → b ≡ false

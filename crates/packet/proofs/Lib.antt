@@ -5,3 +5,5 @@ pub mod ReadLaws
 pub mod BuiltLaws
 pub mod SpellsLaws
 pub mod ExactLaws
+pub mod ShapeLaws
+pub mod TextLaws

@@ -10,3 +10,4 @@ pub mod File
 pub mod Key
 pub mod WordAt
 pub mod Spells
+pub mod Shape

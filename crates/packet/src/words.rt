@@ -51,7 +51,7 @@ fn word_by(k: u64) -> Word
 }
 
 // The word of so many octets from an offset on.
-fn word_of(s: &[u8], from: usize, count: usize) -> Word
+pub(crate) fn word_of(s: &[u8], from: usize, count: usize) -> Word
     requires { ⌜ from + count ≤ length (now s) ⌝ }
     ensures { λ r. ⌜ r ≡ wordOf (take count (drop from (now (s .entry)))) ⌝ }
 {
