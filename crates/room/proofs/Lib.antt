@@ -2,3 +2,4 @@ pub mod EnoughLaws
 pub mod FrameLaws
 pub mod FileLaws
 pub mod NestLaws
+pub mod WhereLaws

@@ -2,3 +2,4 @@ pub mod Layout
 pub mod Frame
 pub mod Spot
 pub mod Table
+pub mod Where

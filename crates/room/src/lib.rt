@@ -25,3 +25,11 @@ pub struct Spot {
     pub base: usize,
     pub count: usize,
 }
+
+// A place: the spot of its goal, how many clauses are supposed, how many parameters are open, and where the stack ends.
+pub struct Where {
+    pub goal: Spot,
+    pub supposed: usize,
+    pub parameters: usize,
+    pub top: usize,
+}
