@@ -7,3 +7,4 @@ pub mod SpellsLaws
 pub mod ExactLaws
 pub mod ShapeLaws
 pub mod TextLaws
+pub mod BarredLaws
