@@ -8,3 +8,6 @@ pub mod ExactLaws
 pub mod ShapeLaws
 pub mod TextLaws
 pub mod BarredLaws
+pub mod FoundLaws
+pub mod MemberLaws
+pub mod FileLaws
