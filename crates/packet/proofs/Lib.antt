@@ -7,7 +7,3 @@ pub mod SpellsLaws
 pub mod ExactLaws
 pub mod ShapeLaws
 pub mod TextLaws
-pub mod BarredLaws
-pub mod FoundLaws
-pub mod MemberLaws
-pub mod FileLaws

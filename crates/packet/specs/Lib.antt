@@ -11,4 +11,3 @@ pub mod Key
 pub mod WordAt
 pub mod Spells
 pub mod Shape
-pub mod Refusal

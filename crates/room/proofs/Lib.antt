@@ -3,3 +3,7 @@ pub mod FrameLaws
 pub mod FileLaws
 pub mod NestLaws
 pub mod WhereLaws
+pub mod TermLaws
+pub mod SeeLaws
+pub mod EqualLaws
+pub mod RestLaws

@@ -52,3 +52,28 @@ rule-nests ds k d e = omega (arith, each-nests clauseSexp ds k d e)
 
 pub candidate-nests : (ts : List Term) (i : ℕ) (t : Term) → getElem? ts i ≡ some t → nesting (termSexp t) + 1 ≤ nesting (termsSexp ts)
 candidate-nests ts i t e = omega (arith, each-nests termSexp ts i t e)
+
+-- after its variables are replaced a term nests at most 63 deeper, where no candidate nests deeper than a file may: so 128 is enough for a comparison to start from
+module _ (cs : List Term) (shallow : (i : ℕ) (t : Term) → getElem? cs i ≡ some t → nesting (termSexp t) ≤ levels) where
+  meant-nests : (b : Binding) → nesting (termSexp (meant cs b)) ≤ levels
+  meant-nests (Candidate i) = go (getElem? cs i) refl
+    where
+      go : (o : Option Term) → getElem? cs i ≡ o → nesting (termSexp (elim o as (λ x. Term) [ none ↦ Term.e 0 | some t ↦ t ])) ≤ levels
+      go none e = omega arith
+      go (some t) e = shallow i t e
+  meant-nests (Parameter k) = omega arith
+
+  value-nests : (bs : Bindings) (i : ℕ) → nesting (termSexp (valueOf cs bs i)) ≤ levels
+  value-nests [] i = omega arith
+  value-nests (b ∷ bs) zero = meant-nests b
+  value-nests (b ∷ bs) (suc i) = value-nests bs i
+
+  mutual
+    pub replaced-nests : (bs : Bindings) (t : Term) → nesting (termSexp (replaced cs bs t)) ≤ nesting (termSexp t) + 63
+    replaced-nests bs (Term.v i) = omega (arith, value-nests bs i)
+    replaced-nests bs (Term.f g ts) = omega (arith, all-replaced-nest bs ts)
+    replaced-nests bs (Term.e k) = omega arith
+
+    pub all-replaced-nest : (bs : Bindings) (ts : Terms) → nestings (termSexps (replaceds cs bs ts)) ≤ nestings (termSexps ts) + 63
+    all-replaced-nest bs Terms.nil = omega arith
+    all-replaced-nest bs (Terms.cons t ts) = omega (arith, replaced-nests bs t, all-replaced-nest bs ts)

@@ -37,7 +37,7 @@ pub fn part<'a>(
     }
 }
 
-fn source_number(which: Source) -> u32
+pub(crate) fn source_number(which: Source) -> u32
     ensures { λ r. ⌜ r ≡ sourceNumber which ⌝ }
 {
     match which {

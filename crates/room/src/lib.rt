@@ -1,9 +1,11 @@
 // The work room: what its words hold, bindings in frames, supposed clauses, the tables of rules and candidates, and whether two atoms are equal under their bindings
 // (document 01, "When a strip fits", "Sizes").
+mod equal;
 mod file;
 mod frame;
 mod words;
 
+pub use equal::same_atoms;
 pub use file::part;
 pub use file::suppose;
 pub use file::supposed;
