@@ -7,3 +7,4 @@ pub mod TermLaws
 pub mod SeeLaws
 pub mod EqualLaws
 pub mod RestLaws
+pub mod MoveLaws

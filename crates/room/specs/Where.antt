@@ -86,3 +86,7 @@ bound w n p = record {
   parameters = p;
   top = plus (w .top) 1;
 }
+
+-- the place of a part under one clause more
+abbrev pub supposes : Where → ℕ → Where
+supposes w n = record { goal = further (w .goal) n; supposed = plus (w .supposed) 1; parameters = w .parameters; top = w .top }
