@@ -7,3 +7,5 @@ pub mod SpellsLaws
 pub mod ExactLaws
 pub mod ShapeLaws
 pub mod TextLaws
+pub mod TabledLaws
+pub mod BarsLaws

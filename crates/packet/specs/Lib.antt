@@ -11,3 +11,4 @@ pub mod Key
 pub mod WordAt
 pub mod Spells
 pub mod Shape
+pub mod Bars

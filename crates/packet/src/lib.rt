@@ -1,4 +1,5 @@
 // The table of words and the four files read (document 01, "The carrier and the words", "Sizes", "What comes back").
+mod bars;
 mod shape;
 mod table;
 mod words;
