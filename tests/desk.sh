@@ -1,0 +1,81 @@
+#!/bin/sh
+# ./desk by itself: bad usage is one line and status 2, and nothing is written; where the repository has the programs, the line in plain words, and heights one after another.
+set -eu
+cd "$(dirname "$0")/.."
+room=$(mktemp -d)
+trap 'rm -rf "$room"' EXIT
+wrong=0 asked=0
+
+# The status, what is printed, and the last line on standard error must be these.
+says() { # STATUS PRINTED SAID WORD..
+  due=$1 printed=$2 said=$3
+  shift 3
+  asked=$((asked + 1)) status=0
+  got=$(./desk "$@" 2> "$room/said") || status=$?
+  heard=$(tail -n 1 "$room/said")
+  [ "$status" -eq "$due" ] && [ "$got" = "$printed" ] && [ "$heard" = "$said" ] && return
+  printf 'desk %s: expected status %s, "%s" and "%s"; there was %s, "%s" and "%s"\n' "$*" "$due" "$printed" "$said" "$status" "$got" "$heard"
+  wrong=$((wrong + 1))
+}
+
+refuses() { # SAID WORD..
+  said=$1
+  shift
+  says 2 '' "desk: $said" "$@"
+  [ "$(wc -l < "$room/said")" -eq 1 ] || { echo "desk $*: more than one line"; wrong=$((wrong + 1)); }
+}
+
+how='(./desk help says how it is used)'
+packet=$room/packet
+cp -r packets/b "$packet"
+mkdir "$room/odd" "$room/odd/goal.sx"
+find "$packet" "$room/odd" -type f -exec cksum {} + > "$room/before"
+refuses "what is to be done? $how"
+refuses "no such command: weigh $how" weigh "$packet"
+refuses "no such option: --loud $how" judge --loud "$packet"
+refuses "judge takes one folder $how" judge
+refuses "judge takes one folder $how" judge "$packet" 3
+refuses "search takes a folder, a height and perhaps a size $how" search "$packet"
+refuses "the height is no number: three $how" search "$packet" three
+refuses "the height is no number:  $how" search "$packet" ''
+refuses "the size is no number: 3k $how" search "$packet" 3 3k
+refuses "check takes nothing more $how" check "$packet"
+refuses "there is no folder $room/nowhere" judge "$room/nowhere"
+refuses "there is no folder $room/nowhere" search "$room/nowhere" 3
+refuses "there is no folder $packet/rules.sx" judge "$packet/rules.sx"
+refuses "$room/odd/goal.sx cannot be read" judge "$room/odd"
+refuses "$room/odd/goal.sx cannot be read" search --upto "$room/odd" 3
+find "$packet" "$room/odd" -type f -exec cksum {} + | cmp - "$room/before" || { echo 'a refused call has written'; wrong=$((wrong + 1)); }
+
+explains() { # NUMBER FILE PLACE WHY WORD..
+  line="refused $1 $2 $3" why="refusal $1: $4"
+  shift 4
+  says 1 "$line" "desk: $why" "$@"
+}
+
+if [ -f crates/verdict/src/main.rt ]; then
+  ./desk judge "$packet" > "$room/first" 2>&1 || true
+  says 0 'accepted 3 3' '' judge "$packet"
+  explains 7 4 20 'strip.sx is no proof: the first node that does not fit is (3:use1:0()), at byte 20' judge packets/case-02-rule-for-supposition
+  explains 2 4 0 'strip.sx is missing, which counts as empty, and an empty file is not one canonical S-expression' judge packets/case-11-strip-missing
+  explains 4 2 0 'goal.sx is not built from the table of words' judge packets/case-11-goal-a-string
+  explains 6 1 0 'rules.sx has more than 256 rules' judge packets/case-12-rules-257
+  explains 3 3 0 'terms.sx has a list at level 65 or deeper' judge packets/case-12-nesting-65-terms
+  says 1 'refused 7 4 20' '' judge --quiet packets/case-02-rule-for-supposition
+else
+  echo 'no program verdict here: what the desk says after a verdict is not tried'
+fi
+
+if [ -f crates/search/src/main.rt ]; then
+  ./desk search "$packet" 0 > "$room/first" 2>&1 || true
+  explains 8 0 0 'no proof of the goal within height 2, from these rules and candidates' search "$packet" 2
+  explains 8 0 0 'no proof of the goal within height 2, from these rules and candidates' search --upto "$packet" 2
+  explains 9 0 0 'the height is over 32' search "$packet" 33
+  explains 10 0 0 'there is a proof, but the first strip is longer than 33 bytes' search "$packet" 3 33
+  says 0 'found 3 3 34' 'desk: height 3' search "$packet" 032 --upto
+  [ "$(wc -l < "$room/said")" -eq 3 ] || { echo 'not the heights 1, 2, 3'; wrong=$((wrong + 1)); }
+else
+  echo 'no program search here: what the desk says after a search is not tried'
+fi
+echo "desk: $asked calls, $wrong wrong"
+[ "$wrong" -eq 0 ]
