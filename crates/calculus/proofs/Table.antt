@@ -1,5 +1,5 @@
--- A derivation for every rule of Figure 1, over the signature of one sort with all symbols, and packet B's (document 01, "Strips to try").
--- With Underivable and Unreached: Figure 1 is neither weakened nor strengthened here.
+-- Derivations in which every rule of Figure 1 is used, over the signature of one sort with all symbols. They show of each rule that it has an instance of this kind, not that it has all of
+-- the figure's: for that each constructor stands beside its rule in specs/Derivation. What the rules do not derive is in Underivable, Unreached and NotUniform.
 use Prim.Native.Nat.{ℕ}
 use mathlib.Core.Path.{_≡_, refl, ap}
 use mathlib.Core.List.{List, [], _∷_, List·Memᴰ, List·Memᴰ·head, List·Memᴰ·not-nil, List·Permᴰ·swap, Permᴰ·refl}
