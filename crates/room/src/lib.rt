@@ -3,6 +3,7 @@
 mod equal;
 mod file;
 mod frame;
+mod moves;
 mod words;
 
 pub use equal::same_atoms;
@@ -12,6 +13,13 @@ pub use file::supposed;
 pub use frame::copy;
 pub use frame::push;
 pub use frame::variable;
+pub use moves::bound;
+pub use moves::further;
+pub use moves::past_part;
+pub use moves::plus;
+pub use moves::supposes;
+pub use moves::within;
+pub use moves::word_there;
 
 // Which file a formula or a term stands in.
 pub enum Source {
