@@ -19,6 +19,7 @@ use Rattle.harrop.proofs.ListLaws.{member-below, member-kept, member-joined}
 use Rattle.sexp.specs.Sexp.{Sexp, Stands, nesting}
 use Rattle.sexp.proofs.StandLaws.{stands-inside, stands-before}
 use Rattle.packet.specs.Written.{goalSexp, clauseSexp}
+use Rattle.packet.specs.Barred.{goalOk, clauseOk}
 use Rattle.packet.specs.File.{mostBytes}
 use Rattle.room.specs.Layout.{words, levels, supposedWord, supposedAtMost, stack}
 use Rattle.room.specs.Frame.{bindingWord, held, bindingsIn}
@@ -35,12 +36,12 @@ pub framed-higher : {f : Files} {room : List ℕ} {x : Spot} {top top′ : ℕ} 
 framed-higher l h = record { stands = h .stands; above = h .above; below = omega (arith, h .below); holds = h .holds; shallow = h .shallow }
 
 pub hand-higher : {f : Files} {room : List ℕ} {ds : List (Clause Plain)} {supposed top top′ : ℕ} {c : Hand Plain} → top ≤ top′ → HandIn f room ds supposed top c → HandIn f room ds supposed top′ c
-hand-higher l h = record { number = h .number; rule = h .rule; suppose = λ j d q. framed-higher l (h .suppose j d q) }
+hand-higher l h = record { number = h .number; rule = h .rule; suppose = λ j d q. framed-higher l (h .suppose j d q); scoped = h .scoped }
 
 module _ {f : Files} {room : List ℕ} {ds : List (Clause Plain)} {us : List Term} {w : Where} {o : List Plain} {c : Hand Plain} {bs : Bindings} {g : Goal Plain} (m : Means f room ds us w o c bs g) where
   -- the part of a quantified goal, its variable bound to b
-  pub bound-means : (b : Binding) (n p : ℕ) (o′ : List Plain) (g′ : Goal Plain) → Stands (file m) (w .goal .at + n) (goalSexp g′) → nesting (goalSexp g′) + 1 ≤ nesting (goalSexp g) → bindingWord b ≤ 4294967295 → w .top < length room → w .top ≤ words → w .supposed ≤ supposedAtMost → length o′ ≡ p → Means f (set room (w .top) (held (bindingWord b))) ds us (bound w n p) o′ c (b ∷ bs) g′
-  bound-means b n p o′ g′ h l small inside low few open′ =
+  pub bound-means : (b : Binding) (n p : ℕ) (o′ : List Plain) (g′ : Goal Plain) → Stands (file m) (w .goal .at + n) (goalSexp g′) → nesting (goalSexp g′) + 1 ≤ nesting (goalSexp g) → goalOk (suc (length bs)) g′ ≡ true → bindingWord b ≤ 4294967295 → w .top < length room → w .top ≤ words → w .supposed ≤ supposedAtMost → length o′ ≡ p → Means f (set room (w .top) (held (bindingWord b))) ds us (bound w n p) o′ c (b ∷ bs) g′
+  bound-means b n p o′ g′ h l ok small inside low few open′ =
       let k = push-keeps room (w .supposed) (w .top) (held (bindingWord b)) few (omega (arith, m .framed .above, m .tight)) in
       let s = m .framed .shallow in
       record {
@@ -56,6 +57,7 @@ module _ {f : Files} {room : List ℕ} {ds : List (Clause Plain)} {us : List Ter
                   ∙ (frame-pushed room (w .goal .base) (w .goal .count) b (omega (arith, m .tight)) small ∙ ap (λ (x : Bindings). b ∷ x) (m .framed .holds)));
               shallow = omega arith;
             };
+        scoped = ok;
         tight = omega (arith, m .tight);
         openly = open′;
         hand = hand-higher (omega arith) (hand-kept k (m .hand));
@@ -96,14 +98,27 @@ supposed-there room m x l long p q r =
     (sets-at (spotWords x) room (supposedWord m) 3 (omega arith) (omega arith) ∙ held-same (x .count) r))
 
 -- the clauses at hand with one more at their end
-pub hand-joined : {f : Files} {room after : List ℕ} {ds : List (Clause Plain)} {supposed top : ℕ} {c : Hand Plain} (x : AtHand Plain) → HandIn f room ds supposed top c → Kept supposed top room after → Framed f after (supposedIn after supposed) top (clauseSexp (x .clause)) (x .bindings) → HandIn f after ds (suc supposed) top (c ++ (x ∷ []))
-hand-joined {f} {room} {after} {ds} {supposed} {top} {c} x h k y =
+pub hand-joined : {f : Files} {room after : List ℕ} {ds : List (Clause Plain)} {supposed top : ℕ} {c : Hand Plain} (x : AtHand Plain) → HandIn f room ds supposed top c → clauseOk (length (x .bindings)) (x .clause) ≡ true → Kept supposed top room after → Framed f after (supposedIn after supposed) top (clauseSexp (x .clause)) (x .bindings) → HandIn f after ds (suc supposed) top (c ++ (x ∷ []))
+hand-joined {f} {room} {after} {ds} {supposed} {top} {c} x h ok k y =
     record {
       number = omega (arith, length-append c (x ∷ []), h .number);
       rule = λ i d p q. h .rule i d p (sym (member-kept c (x ∷ []) i (omega (arith, h .number))) ∙ q);
       suppose = λ j d q. go j d q (ltb j supposed) refl;
+      scoped = λ j d q. fits j d q (ltb j supposed) refl;
     }
   where
+    last-is : (j : ℕ) (d : AtHand Plain) → getElem? (c ++ (x ∷ [])) (length ds + j) ≡ some d → length ds + j ≡ length c → x ≡ d
+    last-is j d q i = Option·some-injective x d (sym (member-joined c x) ∙ (ap (λ (a : ℕ). getElem? (c ++ (x ∷ [])) a) (sym i) ∙ q))
+
+    fits : (j : ℕ) (d : AtHand Plain) → getElem? (c ++ (x ∷ [])) (length ds + j) ≡ some d → (t : Bool) → ltb j supposed ≡ t → clauseOk (length (d .bindings)) (d .clause) ≡ true
+    fits j d q true e =
+        let l = ltb-true j supposed e in
+        h .scoped j d (sym (member-kept c (x ∷ []) (length ds + j) (omega (arith, h .number))) ∙ q)
+    fits j d q false e =
+        let l = ltb-false j supposed e in
+        let b = member-below (c ++ (x ∷ [])) (length ds + j) d q in
+        subst (λ (a : AtHand Plain). clauseOk (length (a .bindings)) (a .clause) ≡ true) (last-is j d q (omega (arith, length-append c (x ∷ []), h .number))) ok
+
     go : (j : ℕ) (d : AtHand Plain) → getElem? (c ++ (x ∷ [])) (length ds + j) ≡ some d → (t : Bool) → ltb j supposed ≡ t → Framed f after (supposedIn after j) top (clauseSexp (d .clause)) (d .bindings)
     go j d q true e =
         let l = ltb-true j supposed e in
@@ -113,13 +128,13 @@ hand-joined {f} {room} {after} {ds} {supposed} {top} {c} x h k y =
         let b = member-below (c ++ (x ∷ [])) (length ds + j) d q in
         let n : j ≡ supposed = omega (arith, length-append c (x ∷ []), h .number) in
         let i : length ds + j ≡ length c = omega (arith, h .number) in
-        let same : x ≡ d = Option·some-injective x d (sym (member-joined c x) ∙ (ap (λ (a : ℕ). getElem? (c ++ (x ∷ [])) a) (sym i) ∙ q)) in
+        let same = last-is j d q i in
         subst (λ (a : AtHand Plain). Framed f after (supposedIn after j) top (clauseSexp (a .clause)) (a .bindings)) same (subst (λ (a : ℕ). Framed f after (supposedIn after a) top (clauseSexp (x .clause)) (x .bindings)) (sym n) y)
 
 module _ {f : Files} {room : List ℕ} {ds : List (Clause Plain)} {us : List Term} {w : Where} {o : List Plain} {c : Hand Plain} {bs : Bindings} {g : Goal Plain} (m : Means f room ds us w o c bs g) where
   -- the part of a goal under a clause that is supposed with the goal's own variables
-  pub supposes-means : (k n : ℕ) (d : Clause Plain) (g′ : Goal Plain) → Stands (file m) (w .goal .at + k) (clauseSexp d) → nesting (clauseSexp d) ≤ nesting (goalSexp g) → Stands (file m) (w .goal .at + n) (goalSexp g′) → nesting (goalSexp g′) ≤ nesting (goalSexp g) → w .supposed < supposedAtMost → w .top ≤ words → words ≤ length room → Means f (supposing room (w .supposed) (further (w .goal) k)) ds us (supposes w n) o (c ++ (record { clause = d; bindings = bs } ∷ [])) bs g′
-  supposes-means k n d g′ hd ld hg lg few low long =
+  pub supposes-means : (k n : ℕ) (d : Clause Plain) (g′ : Goal Plain) → Stands (file m) (w .goal .at + k) (clauseSexp d) → nesting (clauseSexp d) ≤ nesting (goalSexp g) → clauseOk (length bs) d ≡ true → Stands (file m) (w .goal .at + n) (goalSexp g′) → nesting (goalSexp g′) ≤ nesting (goalSexp g) → goalOk (length bs) g′ ≡ true → w .supposed < supposedAtMost → w .top ≤ words → words ≤ length room → Means f (supposing room (w .supposed) (further (w .goal) k)) ds us (supposes w n) o (c ++ (record { clause = d; bindings = bs } ∷ [])) bs g′
+  supposes-means k n d g′ hd ld okd hg lg ok few low long =
       let x = further (w .goal) k in
       let kp = suppose-keeps room (w .supposed) (w .top) x few in
       let i = stands-before hd in
@@ -134,10 +149,11 @@ module _ {f : Files} {room : List ℕ} {ds : List (Clause Plain)} {us : List Ter
         holds = m .framed .holds;
         shallow = omega (arith, m .framed .shallow);
       } in
-      let h = hand-joined (record { clause = d; bindings = bs }) (m .hand) kp (subst (λ (y : Spot). Framed f (supposing room (w .supposed) x) y (w .top) (clauseSexp d) bs) (sym there) (framed-kept {t = w .top} (omega arith) kp framed)) in
+      let h = hand-joined (record { clause = d; bindings = bs }) (m .hand) okd kp (subst (λ (y : Spot). Framed f (supposing room (w .supposed) x) y (w .top) (clauseSexp d) bs) (sym there) (framed-kept {t = w .top} (omega arith) kp framed)) in
       record {
         booked = booked-kept kp (m .booked);
-        framed = framed-kept {t = w .top} (omega arith) kp (part-means m n g′ hg lg .framed);
+        framed = framed-kept {t = w .top} (omega arith) kp (part-means m n g′ hg lg ok .framed);
+        scoped = ok;
         tight = m .tight;
         openly = m .openly;
         hand = subst (λ (j : ℕ). HandIn f (supposing room (w .supposed) x) ds j (w .top) (c ++ (record { clause = d; bindings = bs } ∷ []))) (omega arith) h;

@@ -2,6 +2,7 @@
 use Prim.Native.Nat.{ℕ, suc, _+_, _≤_, _<_, min}
 use native.Mathlib.Omega.{arith}
 use mathlib.Core.Path.{_≡_, refl, sym, _∙_, ap, subst}
+use mathlib.Core.Bool.{true}
 use mathlib.Core.List.{List, [], _∷_}
 use mathlib.Core.Option.{some}
 use lib.Dec.{ltb}
@@ -15,6 +16,7 @@ use Rattle.harrop.proofs.ListLaws.{member-below}
 use Rattle.sexp.specs.Sexp.{Sexp, Stands, nesting}
 use Rattle.sexp.proofs.StandLaws.{stands-inside}
 use Rattle.packet.specs.Written.{goalSexp, clauseSexp, termSexp}
+use Rattle.packet.specs.Barred.{goalOk}
 use Rattle.packet.specs.File.{mostBytes}
 use Rattle.room.specs.Layout.{levels, rulesWord, ruleWord, candidatesWord, candidateWord, highestWord, supposedWord, supposedAtMost, stack}
 use Rattle.room.specs.Spot.{fileOf, sourceOf, supposedIn, nowhere}
@@ -61,6 +63,7 @@ hand-kept {f} {room} {after} {ds} {supposed} {top} {c} k h =
     record {
       number = h .number;
       rule = h .rule;
+      scoped = h .scoped;
       suppose = λ j d q.
           let b = member-below c (length ds + j) d q in
           let e = supposed-kept room after supposed top j (omega (arith, h .number)) k in
@@ -80,6 +83,7 @@ booked-kept {f} {room} {after} {ds} {us} k b =
                 subst (λ (n : ℕ). Stands (f .rules) n (clauseSexp d)) (sym (k (ruleWord i) (Live.low (omega (arith, b .rules .few))))) (b .rules .starts i d q);
           };
       shallow = b .shallow;
+      scoped = b .scoped;
       candidates =
           record {
             counted = k candidatesWord (Live.low (omega arith)) ∙ b .candidates .counted;
@@ -104,6 +108,7 @@ means-kept {w = w} k m =
     record {
       booked = booked-kept k (m .booked);
       framed = framed-kept {t = w .top} (omega arith) k (m .framed);
+      scoped = m .scoped;
       tight = m .tight;
       openly = m .openly;
       hand = hand-kept k (m .hand);
@@ -125,8 +130,8 @@ module _ {f : Files} {room : List ℕ} {ds : List (Clause Plain)} {us : List Ter
   file = fileOf (f .rules) (f .goal) (f .terms) (w .goal .source)
 
   -- the place of a part of the goal
-  pub part-means : (n : ℕ) (g′ : Goal Plain) → Stands file (w .goal .at + n) (goalSexp g′) → nesting (goalSexp g′) ≤ nesting (goalSexp g) → Means f room ds us (within w n) o c bs g′
-  part-means n g′ h l =
+  pub part-means : (n : ℕ) (g′ : Goal Plain) → Stands file (w .goal .at + n) (goalSexp g′) → nesting (goalSexp g′) ≤ nesting (goalSexp g) → goalOk (length bs) g′ ≡ true → Means f room ds us (within w n) o c bs g′
+  part-means n g′ h l ok =
       record {
         booked = m .booked;
         framed =
@@ -137,6 +142,7 @@ module _ {f : Files} {room : List ℕ} {ds : List (Clause Plain)} {us : List Ter
               holds = m .framed .holds;
               shallow = omega (arith, m .framed .shallow);
             };
+        scoped = ok;
         tight = m .tight;
         openly = m .openly;
         hand = m .hand;

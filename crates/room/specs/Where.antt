@@ -2,6 +2,7 @@
 -- The places meant are those of crate harrop. Checker and search both walk from place to place; what a place relies on is kept until the walk is back at it.
 use Prim.Native.Nat.{ℕ, _+_, _≤_, _<_, min}
 use mathlib.Core.Path.{_≡_}
+use mathlib.Core.Bool.{true}
 use mathlib.Core.List.{List, []}
 use mathlib.Core.Option.{some}
 use lib.ListN.{length, getD, getElem?}
@@ -10,6 +11,7 @@ use Rattle.harrop.specs.Bindings.{Bindings}
 use Rattle.harrop.specs.Place.{AtHand, Hand, Plain}
 use Rattle.sexp.specs.Sexp.{Sexp, Stands, nesting}
 use Rattle.packet.specs.Written.{goalSexp, clauseSexp}
+use Rattle.packet.specs.Barred.{goalOk, clauseOk}
 use Rattle.packet.specs.File.{mostBytes}
 use Rattle.room.specs.Layout.{levels, supposedWord, stack}
 use Rattle.room.specs.Spot.{fileOf, bindingsAt, supposedIn}
@@ -40,16 +42,18 @@ pub record Framed (f : Files) (room : List ℕ) (x : Spot) (top : ℕ) (e : Sexp
   pub holds : bindingsAt room x ≡ bs
   pub shallow : x .count + nesting e ≤ levels
 
--- the clauses at hand: the rules, then those that are supposed
+-- the clauses at hand: the rules, then those that are supposed. Each formula is one that refusal 5 lets pass: its variables are bound, and it holds no parameter
 pub record HandIn (f : Files) (room : List ℕ) (ds : List (Clause Plain)) (supposed top : ℕ) (c : Hand Plain) : Type 0 where
   pub number : length c ≡ length ds + supposed
   pub rule : (k : ℕ) (h : AtHand Plain) → k < length ds → getElem? c k ≡ some h → (h .bindings ≡ []) × (getElem? ds k ≡ some (h .clause))
   pub suppose : (j : ℕ) (h : AtHand Plain) → getElem? c (length ds + j) ≡ some h → Framed f room (supposedIn room j) top (clauseSexp (h .clause)) (h .bindings)
+  pub scoped : (j : ℕ) (h : AtHand Plain) → getElem? c (length ds + j) ≡ some h → clauseOk (length (h .bindings)) (h .clause) ≡ true
 
 -- the packet's rules and candidates in the files and in the room's tables
 pub record Booked (f : Files) (room : List ℕ) (ds : List (Clause Plain)) (us : List Term) : Type 0 where
   pub rules : RulesIn room (f .rules) ds
   pub shallow : (k : ℕ) (d : Clause Plain) → getElem? ds k ≡ some d → nesting (clauseSexp d) ≤ levels
+  pub scoped : (k : ℕ) (d : Clause Plain) → getElem? ds k ≡ some d → clauseOk 0 d ≡ true
   pub candidates : CandidatesIn room (f .terms) us
   pub rules-small : length (f .rules) ≤ mostBytes
   pub goal-small : length (f .goal) ≤ mostBytes
@@ -59,6 +63,7 @@ pub record Booked (f : Files) (room : List ℕ) (ds : List (Clause Plain)) (us :
 pub record Means (f : Files) (room : List ℕ) (ds : List (Clause Plain)) (us : List Term) (w : Where) (o : List Plain) (c : Hand Plain) (bs : Bindings) (g : Goal Plain) : Type 0 where
   pub booked : Booked f room ds us
   pub framed : Framed f room (w .goal) (w .top) (goalSexp g) bs
+  pub scoped : goalOk (length bs) g ≡ true
   pub tight : w .goal .base + w .goal .count ≡ w .top
   pub openly : length o ≡ w .parameters
   pub hand : HandIn f room ds (w .supposed) (w .top) c
