@@ -9,3 +9,7 @@ pub mod ShapeLaws
 pub mod TextLaws
 pub mod TabledLaws
 pub mod BarsLaws
+pub mod BarredLaws
+pub mod FoundLaws
+pub mod MemberLaws
+pub mod FileLaws

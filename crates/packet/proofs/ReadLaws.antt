@@ -74,18 +74,18 @@ pub candidates-read : (ts : List Term) → candidatesOf (termsSexp ts) ≡ ts
 unfolding candidatesOf membersOf restOf
 candidates-read ts = each-read termOf termSexp term-read ts
 
--- no number is a letter
-pub no-letter : (i c : ℕ) → 57 < c → sameName (decimal i) (c ∷ []) ≡ false
+-- no number begins with a letter
+pub no-letter : (i c : ℕ) (cs : List ℕ) → 57 < c → sameName (decimal i) (c ∷ cs) ≡ false
 unfolding decimal
-no-letter i c h =
+no-letter i c cs h =
     let (d, r, e, l) = onto-first i [] in
-    ap (λ (w : List ℕ). sameName w (c ∷ [])) e ∙ ap (λ (b : Bool). b && sameName r []) (ne-eqb d c (λ x. omega (arith, l, x)))
+    ap (λ (w : List ℕ). sameName w (c ∷ cs)) e ∙ ap (λ (b : Bool). b && sameName r cs) (ne-eqb d c (λ x. omega (arith, l, x)))
 
 pub step-read : (s : Step) → stepOf (stepSexp s) ≡ s
 unfolding stepOf
 step-read Step.l = refl
 step-read Step.r = refl
-step-read (Step.n i) = rw (no-letter i 108 (omega arith)) (rw (no-letter i 114 (omega arith)) (ap Step.n (worth-decimal i)))
+step-read (Step.n i) = rw (no-letter i 108 [] (omega arith)) (rw (no-letter i 114 [] (omega arith)) (ap Step.n (worth-decimal i)))
 
 pub path-read : (path : List Step) → pathOf (pathSexp path) ≡ path
 unfolding pathOf membersOf

@@ -53,6 +53,11 @@ abbrev mutual
   clauseOk n (Clause.allD q d) = clauseOk (suc n) d
   clauseOk n (Clause.andD c d) = clauseOk n c && clauseOk n d
 
+-- all of a list
+abbrev pub eachOk : {A : Type 0} → (A → Bool) → List A → Bool
+eachOk ok [] = true
+eachOk ok (x ∷ xs) = ok x && eachOk ok xs
+
 -- on the expressions, with the place
 -- what a list is by its word: a variable, a parameter, a quantifier, or anything else
 pub data Sort : Type 0 where

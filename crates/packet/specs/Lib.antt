@@ -12,3 +12,4 @@ pub mod WordAt
 pub mod Spells
 pub mod Shape
 pub mod Bars
+pub mod Refusal
