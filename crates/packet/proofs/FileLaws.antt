@@ -167,12 +167,16 @@ first-barred k e o f = go (barred (holds k) 0 0 e) refl (told e (holds k) 0 0)
         let z = u m′ o x′ v′ b′ in
         g ∙ ap some {x = p} {y = o} (omega arith)
 
-none-barred : (k : Kind) (e : Sexp) → Unbarred k e → barred (holds k) 0 0 e ≡ none
+-- nothing barred stands in it exactly if Barred has no place
+pub none-barred : (k : Kind) (e : Sexp) → Unbarred k e → barred (holds k) 0 0 e ≡ none
 none-barred k e f = go (barred (holds k) 0 0 e) refl (told e (holds k) 0 0)
   where
     go : (a : Option ℕ) → barred (holds k) 0 0 e ≡ a → Says (holds k) (Found 0 0 e) a → barred (holds k) 0 0 e ≡ none
     go none g u = g
     go (some p) g ((m, x, v, b), u) = absurd (f p (m, x, v, b))
+
+pub barred-none : (k : Kind) (e : Sexp) → barred (holds k) 0 0 e ≡ none → Unbarred k e
+barred-none k e h = let f = subst (Says (holds k) (Found 0 0 e)) h (told e (holds k) 0 0) in λ o (m, x, v, b). f m o x v b
 
 -- the answers, line by line
 module _ (k : Kind) (s : List ℕ) where

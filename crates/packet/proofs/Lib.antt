@@ -13,3 +13,5 @@ pub mod BarredLaws
 pub mod FoundLaws
 pub mod MemberLaws
 pub mod FileLaws
+pub mod GoodLaws
+pub mod PacketLaws

@@ -13,3 +13,4 @@ pub mod Spells
 pub mod Shape
 pub mod Bars
 pub mod Refusal
+pub mod Sound
