@@ -3,7 +3,8 @@
 use std::io::{Read, Write};
 use std::process::ExitCode;
 
-use second::verdict::Files;
+use second::search::Search;
+use second::verdict::{Files, HEIGHT};
 use second::{answers, make};
 
 fn main() -> ExitCode {
@@ -37,6 +38,7 @@ fn run(words: &[String]) -> Result<Vec<u8>, String> {
         "search-counts" => counts(answers::search_counts(&input()?)?),
         "judge" => judge(words),
         "search" => search(words),
+        "looks" => looks(words),
         _ => Err("which of the subcommands in README.md?".to_string()),
     }
 }
@@ -61,6 +63,19 @@ fn search(words: &[String]) -> Result<Vec<u8>, String> {
     let [rules, goal, terms] = ["rules.sx", "goal.sx", "terms.sx"].map(|name| file(folder, name));
     let files = Files { rules: &rules, goal: &goal, terms: &terms };
     Ok(lines(vec![answers::search_line(files, height, size, places(words))]))
+}
+
+/// `looks DIR HEIGHT`: how many places and clauses that search looks at.
+fn looks(words: &[String]) -> Result<Vec<u8>, String> {
+    let usage = || "looks DIR HEIGHT".to_string();
+    let folder = words.get(1).ok_or_else(usage)?;
+    let height = words.get(2).and_then(|word| decimal(word)).filter(|height| *height <= HEIGHT).ok_or_else(usage)?;
+    let [rules, goal, terms] = ["rules.sx", "goal.sx", "terms.sx"].map(|name| file(folder, name));
+    let packet = Files { rules: &rules, goal: &goal, terms: &terms }.packet();
+    let packet = packet.map_err(|refusal| answers::refused(refusal, true))?;
+    let mut search = Search::new(&packet.candidates, u64::MAX);
+    search.goal(&packet.goal, &packet.rules, 0, height).map_err(|_| "no end of looks".to_string())?;
+    Ok(lines(vec![search.looked(u64::MAX).to_string()]))
 }
 
 /// A decimal number; one too large for its type counts as the largest.

@@ -22,6 +22,11 @@ impl<'a> Search<'a> {
         Search { candidates, left: looks }
     }
 
+    /// How many places and clauses were looked at, of so many that were given.
+    pub fn looked(&self, looks: u64) -> u64 {
+        looks - self.left
+    }
+
     fn look(&mut self) -> Result<(), Unanswered> {
         self.left = self.left.checked_sub(1).ok_or(Unanswered)?;
         Ok(())
