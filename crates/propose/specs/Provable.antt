@@ -3,13 +3,18 @@
 use Prim.Native.Nat.{ℕ, zero, suc, _-_}
 use mathlib.Core.Bool.{Bool, true, false, _&&_, _||_}
 use mathlib.Core.List.{List, [], _∷_, _++_}
-use mathlib.Core.Option.{none, some}
+use mathlib.Core.Option.{Option, none, some}
 use lib.ListN.{length, getElem?}
 use Rattle.basics.specs.Choice.{maybe}
 use Rattle.harrop.specs.declared.Binding.the-variants.{Candidate, Parameter}
 use Rattle.harrop.specs.Formula.{Atom, Goal, Clause}
 use Rattle.harrop.specs.Bindings.{Bindings, replacedAtom, sameAtom}
 use Rattle.harrop.specs.Place.{Candidates, AtHand, Hand, End, allowed}
+
+-- whether there is an answer
+abbrev pub isSome : {A : Type 0} → Option A → Bool
+isSome none = false
+isSome (some a) = true
 
 -- whether one of i, i + 1, .., n of them, answers yes
 unfoldable pub anyFrom : (ℕ → Bool) → ℕ → ℕ → Bool

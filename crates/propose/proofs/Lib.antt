@@ -1,0 +1,2 @@
+pub mod ProvableLaws
+pub mod WalkLaws
