@@ -16,7 +16,8 @@ use Rattle.calculus.specs.Formula.{Formula}
 use Rattle.calculus.specs.Signature.{HasSort, HaveSorts, Has, FormulaOver, Over}
 use Rattle.calculus.specs.Translation.{goalFormula, clauseFormula, parametersOf, signatureAt}
 use Rattle.calculus.specs.Apt.{Apt}
-use Rattle.calculus.specs.Packet.{Symbol, count, functionsIn, functionsInAll, ofAtoms, atomFunctions, atomPredicates, ofEach, formulasOf, plain, packetFunctions, packetPredicates, packetSymbols, packetSignature, FormulaWithin, Closed}
+use Rattle.calculus.specs.Symbol.{Symbol, count}
+use Rattle.calculus.specs.Packet.{functionsIn, functionsInAll, ofAtoms, atomFunctions, atomPredicates, ofEach, formulasOf, plain, packetFunctions, packetPredicates, packetSymbols, packetSignature, FormulaWithin, Closed}
 
 -- every member of the list is one of the set
 abbrev pub Among : List Symbol → (Symbol → Type 0) → Type 0

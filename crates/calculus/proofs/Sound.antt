@@ -1,5 +1,5 @@
 -- Every rule of Figure 1 keeps the value of the right side at least as high as the least on the left, cut or no cut (specs/Values).
-use Prim.Native.Nat.{ℕ, _≤_, min, max}
+use Prim.Native.Nat.{ℕ, suc, _≤_, min, max}
 use mathlib.Core.Path.{_≡_, refl, _∙_, ap, ap₂}
 use mathlib.Core.Bool.{Bool, true, false}
 use mathlib.Core.List.{List, [], _∷_, _++_, List·Permᴰ·nil, List·Permᴰ·cons, List·Permᴰ·swap, List·Permᴰ·trans}
@@ -7,9 +7,10 @@ use native.Mathlib.Omega.{arith}
 use lib.Dec.{leb}
 use borrow.Author.Tests.{leb-true, leb-false}
 use Rattle.basics.specs.Choice.{choose}
-use Rattle.harrop.specs.Formula.{Name, Term, Atom}
+use Rattle.harrop.specs.Formula.{Term, Terms, Atom}
 use Rattle.calculus.specs.Formula.{Formula}
-use Rattle.calculus.specs.Substitution.{Substitution, inFormula, before, itself, under}
+use Rattle.calculus.specs.Symbol.{Symbol, count}
+use Rattle.calculus.specs.Substitution.{Substitution, inTerms, inFormula, before, itself, under}
 use Rattle.calculus.specs.Multiset.{_≈_}
 use Rattle.calculus.specs.Signature.{Signature}
 use Rattle.calculus.specs.Derivation.{Derivation}
@@ -31,7 +32,12 @@ implied-under m b d c h k = go (leb b d) refl
     go true e = let l = leb-true b d e in omega arith
     go false e = k
 
-module _ {S : Type 0} (ν : Name → ℕ) where
+-- what is put in for variables leaves a symbol its number of arguments
+count-of-instance : (σ : Substitution) (ts : Terms) → count (inTerms σ ts) ≡ count ts
+count-of-instance σ Terms.nil = refl
+count-of-instance σ (Terms.cons t ts) = ap suc (count-of-instance σ ts)
+
+module _ {S : Type 0} (ν : Symbol → ℕ) where
   least-at-most : (Γ : List (Formula S)) → least ν Γ ≤ 2
   least-at-most [] = omega arith
   least-at-most (B ∷ Γ) = let h = least-at-most Γ in omega arith
@@ -52,7 +58,7 @@ module _ {S : Type 0} (ν : Name → ℕ) where
 
   -- what is put in for variables changes no value
   value-of-instance : (σ : Substitution) (B : Formula S) → value ν (inFormula σ B) ≡ value ν B
-  value-of-instance σ (Formula.atom (Atom.atom p ts)) = refl
+  value-of-instance σ (Formula.atom (Atom.atom p ts)) = ap (λ (n : ℕ). ν (p, n)) (count-of-instance σ ts)
   value-of-instance σ Formula.top = refl
   value-of-instance σ Formula.bottom = refl
   value-of-instance σ (Formula.and B C) = ap₂ min (value-of-instance σ B) (value-of-instance σ C)

@@ -12,7 +12,7 @@ use Rattle.calculus.specs.Formula.{Formula}
 use Rattle.calculus.specs.Multiset.{_≈_}
 use Rattle.calculus.specs.Signature.{Signature, Fresh, IsSequent}
 use Rattle.calculus.specs.Derivation.{Derivation}
-use Rattle.calculus.specs.Uniform.{Rule, rulesIn}
+use Rattle.calculus.specs.Uniform.{Rule, rulesIn, RightFirst}
 use Rattle.calculus.specs.Packet.{plain, FormulaWithin}
 use Rattle.calculus.proofs.PacketLaws.{all-plain-over}
 use Rattle.calculus.proofs.Underivable.{of}
@@ -60,15 +60,23 @@ c = Term.f (octets "c") Terms.nil
 abbrev pub modus : Formula Plain
 modus = Formula.and p (Formula.implies p q)
 
+-- p → p, and q, p → q
+same : Derivation (everything []) (p ∷ []) p
+same = Derivation.id (closed (p ∷ []) p (omega arith)) in-order
+
+besides : Derivation (everything []) (q ∷ p ∷ []) q
+besides =
+    Derivation.weak-L (closed (q ∷ p ∷ []) q (omega arith)) swapped
+    (Derivation.id (closed (q ∷ []) q (omega arith)) in-order)
+
+detached : Derivation (everything []) (Formula.implies p q ∷ p ∷ []) q
+detached = Derivation.implies-L (closed (Formula.implies p q ∷ p ∷ []) q (omega arith)) in-order in-order same besides
+
 pub by-implication : Derivation (everything []) (modus ∷ []) q
 by-implication =
     Derivation.contr-L (closed (modus ∷ []) q (omega arith)) in-order in-order
     (Derivation.and-L₁ (closed (modus ∷ modus ∷ []) q (omega arith)) in-order in-order
-    (Derivation.and-L₂ (closed (p ∷ modus ∷ []) q (omega arith)) swapped in-order
-    (Derivation.implies-L (closed (Formula.implies p q ∷ p ∷ []) q (omega arith)) in-order in-order
-    (Derivation.id (closed (p ∷ []) p (omega arith)) in-order)
-    (Derivation.weak-L (closed (q ∷ p ∷ []) q (omega arith)) swapped
-    (Derivation.id (closed (q ∷ []) q (omega arith)) in-order)))))
+    (Derivation.and-L₂ (closed (p ∷ modus ∷ []) q (omega arith)) swapped in-order detached))
 
 -- document 004, section 3: provable, but not uniformly
 pub by-cases : Derivation (everything []) (Formula.or p q ∷ []) (Formula.or q p)
@@ -95,8 +103,31 @@ by-cut =
     Derivation.cut {Γ = Formula.and p q ∷ []} {Δ = []} {B = p} (closed (Formula.and p q ∷ []) (Formula.or p q) (omega arith)) in-order in-order
     (Derivation.and-L₁ (closed (Formula.and p q ∷ []) p (omega arith)) in-order in-order
     (Derivation.id (closed (p ∷ []) p (omega arith)) in-order))
-    (Derivation.or-R₁ (closed (p ∷ []) (Formula.or p q) (omega arith))
-    (Derivation.id (closed (p ∷ []) p (omega arith)) in-order))
+    (Derivation.or-R₁ (closed (p ∷ []) (Formula.or p q) (omega arith)) same)
+
+-- a cut that splits the left side: p ∧ q → p, and p, p ⊃ q → q
+pub by-splitting : Derivation (everything []) (Formula.implies p q ∷ Formula.and p q ∷ []) q
+by-splitting =
+    Derivation.cut {Γ = Formula.and p q ∷ []} {Δ = Formula.implies p q ∷ []} {B = p} (closed (Formula.implies p q ∷ Formula.and p q ∷ []) q (omega arith)) swapped swapped
+    (Derivation.and-L₁ (closed (Formula.and p q ∷ []) p (omega arith)) in-order in-order same) detached
+
+-- a left rule last where the right side is not atomic, all that is above it right first
+pub by-contraction : Derivation (everything []) (p ∷ []) (Formula.and p p)
+by-contraction =
+    Derivation.contr-L (closed (p ∷ []) (Formula.and p p) (omega arith)) in-order in-order
+    (Derivation.and-R (closed (p ∷ p ∷ []) (Formula.and p p) (omega arith))
+    (Derivation.weak-L (closed (p ∷ p ∷ []) p (omega arith)) in-order same)
+    (Derivation.weak-L (closed (p ∷ p ∷ []) p (omega arith)) in-order same))
+
+pub by-weakening : Derivation (everything []) (q ∷ p ∷ []) (Formula.and p p)
+by-weakening =
+    Derivation.weak-L (closed (q ∷ p ∷ []) (Formula.and p p) (omega arith)) in-order
+    (Derivation.and-R (closed (p ∷ []) (Formula.and p p) (omega arith)) same same)
+
+pub by-detachment : Derivation (everything []) (Formula.implies p q ∷ p ∷ []) (Formula.and q q)
+by-detachment =
+    Derivation.implies-L (closed (Formula.implies p q ∷ p ∷ []) (Formula.and q q) (omega arith)) in-order in-order same
+    (Derivation.and-R (closed (q ∷ p ∷ []) (Formula.and q q) (omega arith)) besides besides)
 
 -- where there is a constant, for all gives there is
 pub by-constant : Derivation (everything []) (Formula.all tt (p′ (Term.v 0)) ∷ []) (Formula.some tt (p′ (Term.v 0)))
@@ -125,8 +156,17 @@ pub every-rule :
     × (rulesIn by-falsity ≡ Rule.implies-R ∷ Rule.bottom-L ∷ [])
     × (rulesIn by-truth ≡ Rule.and-R ∷ Rule.top-R ∷ Rule.id ∷ [])
     × (rulesIn by-cut ≡ Rule.cut ∷ Rule.and-L₁ ∷ Rule.id ∷ Rule.or-R₁ ∷ Rule.id ∷ [])
+    × (rulesIn by-splitting ≡ Rule.cut ∷ Rule.and-L₁ ∷ Rule.id ∷ Rule.implies-L ∷ Rule.id ∷ Rule.weak-L ∷ Rule.id ∷ [])
+    × (rulesIn by-contraction ≡ Rule.contr-L ∷ Rule.and-R ∷ Rule.weak-L ∷ Rule.id ∷ Rule.weak-L ∷ Rule.id ∷ [])
+    × (rulesIn by-weakening ≡ Rule.weak-L ∷ Rule.and-R ∷ Rule.id ∷ Rule.id ∷ [])
+    × (rulesIn by-detachment ≡ Rule.implies-L ∷ Rule.id ∷ Rule.and-R ∷ Rule.weak-L ∷ Rule.id ∷ Rule.weak-L ∷ Rule.id ∷ [])
     × (rulesIn by-constant ≡ Rule.all-L ∷ Rule.some-R ∷ Rule.id ∷ [])
     × (rulesIn by-parameter ≡ Rule.some-L ∷ Rule.some-R ∷ Rule.id ∷ [])
     × (rulesIn by-generality ≡ Rule.all-R ∷ Rule.all-L ∷ Rule.id ∷ [])
-unfolding by-implication by-cases by-falsity by-truth by-cut by-constant by-parameter by-generality
-every-rule = (refl, refl, refl, refl, refl, refl, refl, refl)
+unfolding same besides detached by-implication by-cases by-falsity by-truth by-cut by-splitting by-contraction by-weakening by-detachment by-constant by-parameter by-generality
+every-rule = (refl, refl, refl, refl, refl, refl, refl, refl, refl, refl, refl, refl)
+
+-- the last three are not uniform, because of their last rule
+pub left-rule-too-late : ¬ (RightFirst by-contraction) × (¬ (RightFirst by-weakening)) × (¬ (RightFirst by-detachment))
+unfolding by-contraction by-weakening by-detachment
+left-rule-too-late = (λ u. u .0 (λ a. a), λ u. u .0 (λ a. a), λ u. u .0 (λ a. a))

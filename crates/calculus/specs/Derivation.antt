@@ -1,6 +1,9 @@
 -- Figure 1 of document 004, whole: Derivation Σ Γ C is a derivation of Σ : Γ → C, a constructor for each rule and no other, in the figure's order and beside each the rule as printed.
 -- The first premise of each says that its conclusion is a sequent, all of whose formulas are over its signature (section 2): so every formula in a derivation is, a cut's and a
--- weakening's too. The left side is a multiset: `Θ ≈ B ∷ Γ` reads "Θ is Γ, B", in any order. In ∀ R and ∃ R the right side of the premise is named D, and D is the instance.
+-- weakening's too (`is-sequent`, proofs/TypedLaws). The left side is a multiset: `Θ ≈ B ∷ Γ` reads "Θ is Γ, B", in any order. A left rule takes the lists of its conclusion and of its premises
+-- up to order, and so does ⊃ R that of its premise; the other right rules have the same list in both. Nothing is lost by that: a derivation is one of the same sequent in any order, by the
+-- same rules (`reordered`, proofs/OrderLaws). In ∀ R and ∃ R the right side of the premise is named D, and D is the instance.
+-- It is a Type 1 because a derivation names signatures, and a signature says of each name whether it is a symbol, in types (Symbols, specs/Signature).
 use Prim.Native.Nat.{ℕ}
 use mathlib.Core.Path.{_≡_}
 use mathlib.Core.List.{List, [], _∷_, _++_}

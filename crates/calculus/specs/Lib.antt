@@ -2,6 +2,7 @@ pub mod Formula
 pub mod Substitution
 pub mod Multiset
 pub mod Signature
+pub mod Symbol
 pub mod Derivation
 pub mod Uniform
 pub mod Translation

@@ -3,20 +3,13 @@
 use Prim.Native.Nat.{ℕ, suc}
 use mathlib.Core.List.{List, [], _∷_, _++_, map, List·Memᴰ}
 use lib.ListN.{length}
-use Rattle.harrop.specs.Formula.{Name, Term, Terms, Atom, Goal, Clause}
+use Rattle.harrop.specs.Formula.{Term, Terms, Atom, Goal, Clause}
 use Rattle.harrop.specs.Place.{Plain}
 use Rattle.harrop.specs.Scoped.{AtomWithin}
 use Rattle.calculus.specs.Formula.{Formula}
 use Rattle.calculus.specs.Signature.{Symbols, Signature}
+use Rattle.calculus.specs.Symbol.{Symbol, count, predicateOf}
 use Rattle.calculus.specs.Translation.{goalFormula, clauseFormula}
-
--- a symbol is a name with its number of arguments
-abbrev pub Symbol : Type 0
-Symbol = Name × ℕ
-
-abbrev pub count : Terms → ℕ
-count Terms.nil = 0
-count (Terms.cons t ts) = suc (count ts)
 
 -- the functions in a term, each as often as it stands there
 abbrev mutual
@@ -44,7 +37,7 @@ abbrev pub atomFunctions : Atom → List Symbol
 atomFunctions (Atom.atom p ts) = functionsInAll ts
 
 abbrev pub atomPredicates : Atom → List Symbol
-atomPredicates (Atom.atom p ts) = (p, count ts) ∷ []
+atomPredicates a = predicateOf a ∷ []
 
 -- the same of every member of a list, one after the other
 abbrev pub ofEach : {A B : Type 0} → (A → List B) → List A → List B

@@ -94,7 +94,7 @@ module _ {S : Type 0} where
   Everywhere P {Σ} {Γ} {C} (Derivation.some-L y q m h n D) = P Σ Γ C (Derivation.some-L y q m h n D) × Everywhere P D
   Everywhere P {Σ} {Γ} (Derivation.some-R {τ = s} {B = B} t q h e D) = P Σ Γ (Formula.some s B) (Derivation.some-R t q h e D) × Everywhere P D
 
-  -- the rule that the last sequent is the conclusion of
+  -- the rule that the last sequent is the conclusion of; what is said below is said of this
   abbrev pub lastRule : {Σ : Signature S} {Γ : List (Formula S)} {C : Formula S} → Derivation Σ Γ C → Rule
   lastRule (Derivation.id q m) = Rule.id
   lastRule (Derivation.cut q m n D E) = Rule.cut
@@ -115,7 +115,7 @@ module _ {S : Type 0} where
   lastRule (Derivation.some-L y q m h n D) = Rule.some-L
   lastRule (Derivation.some-R t q h e D) = Rule.some-R
 
-  -- the rules of a derivation, the last first and each before those of its premises
+  -- for reading only: the rules of a derivation, the last first and each before those of its premises; no definition rests on it
   abbrev pub rulesIn : {Σ : Signature S} {Γ : List (Formula S)} {C : Formula S} → Derivation Σ Γ C → List Rule
   rulesIn (Derivation.id q m) = Rule.id ∷ []
   rulesIn (Derivation.cut q m n D E) = Rule.cut ∷ (rulesIn D ++ rulesIn E)
