@@ -14,6 +14,8 @@ use Rattle.harrop.specs.Formula.{Name, Term, Terms, Atom}
 use Rattle.harrop.specs.Bindings.{Bindings, replaced, replaceds, replacedAtom, sameTerm, sameTerms, sameAtom}
 use Rattle.harrop.proofs.SameLaws.{equal-terms-same, equal-names-same}
 use Rattle.packet.specs.Written.{termSexp, termSexps, atomSexp}
+use Rattle.packet.specs.Read.{termOf}
+use Rattle.packet.proofs.ReadLaws.{term-read}
 use Rattle.packet.specs.Barred.{termOk, termsOk}
 use Rattle.sexp.specs.declared.skip.After.{After}
 use Rattle.sexp.specs.declared.skip.After.the-variants as A
@@ -41,29 +43,8 @@ use Rattle.room.proofs.NestLaws.{term-nests}
 use Rattle.room.proofs.TermLaws.{part-stands, all-further, termWord, termText, termRest, term-word, term-text, term-rest, atom-text, atom-rest, text-once, decimal-same, names-differ, written-same, words-differ, texts-differ, rest-less, rest-shallow, rest-ok}
 
 -- a term is known from how it is written
-mutual
-  pub written-once : (t u : Term) → termSexp t ≡ termSexp u → t ≡ u
-  written-once (Term.v i) (Term.v j) e = let d : decimal i ≡ decimal j = cc in ap Term.v (decimal-same i j d)
-  written-once (Term.v i) (Term.f h us) e = let z : _≡_ {A = ℕ} 118 102 = cc in absurd (omega arith)
-  written-once (Term.v i) (Term.e m) e = let z : _≡_ {A = ℕ} 118 101 = cc in absurd (omega arith)
-  written-once (Term.f g ts) (Term.v j) e = let z : _≡_ {A = ℕ} 118 102 = cc in absurd (omega arith)
-  written-once (Term.f g ts) (Term.f h us) e =
-      let d : g ≡ h = cc in
-      let r : termSexps ts ≡ termSexps us = cc in
-      ap₂ Term.f d (all-written-once ts us r)
-  written-once (Term.f g ts) (Term.e m) e = let z : _≡_ {A = ℕ} 102 101 = cc in absurd (omega arith)
-  written-once (Term.e k) (Term.v j) e = let z : _≡_ {A = ℕ} 118 101 = cc in absurd (omega arith)
-  written-once (Term.e k) (Term.f h us) e = let z : _≡_ {A = ℕ} 102 101 = cc in absurd (omega arith)
-  written-once (Term.e k) (Term.e m) e = let d : decimal k ≡ decimal m = cc in ap Term.e (decimal-same k m d)
-
-  pub all-written-once : (ts us : Terms) → termSexps ts ≡ termSexps us → ts ≡ us
-  all-written-once Terms.nil Terms.nil e = refl
-  all-written-once Terms.nil (Terms.cons u us) e = let z : _≡_ {A = ℕ} 0 1 = cc in absurd (omega arith)
-  all-written-once (Terms.cons t ts) Terms.nil e = let z : _≡_ {A = ℕ} 0 1 = cc in absurd (omega arith)
-  all-written-once (Terms.cons t ts) (Terms.cons u us) e =
-      let d : termSexp t ≡ termSexp u = cc in
-      let r : termSexps ts ≡ termSexps us = cc in
-      ap₂ Terms.cons (written-once t u d) (all-written-once ts us r)
+written-once : (t u : Term) → termSexp t ≡ termSexp u → t ≡ u
+written-once t u e = sym (term-read t) ∙ ap termOf e ∙ term-read u
 
 -- two spots with the same fields
 pub spot-same : (x y : Spot) → sourceNumber (x .source) ≡ sourceNumber (y .source) → x .at ≡ y .at → x .base ≡ y .base → x .count ≡ y .count → x ≡ y

@@ -8,3 +8,5 @@ pub mod SeeLaws
 pub mod EqualLaws
 pub mod RestLaws
 pub mod MoveLaws
+pub mod HighLaws
+pub mod TableLaws

@@ -50,14 +50,14 @@ no-f-v z = let z′ : _≡_ {A = ℕ} 118 102 = cc in omega arith
 no-e-v : octets "e" ≡ octets "v" → ⊥
 no-e-v z = let z′ : _≡_ {A = ℕ} 118 101 = cc in omega arith
 
-no-f-e : octets "f" ≡ octets "e" → ⊥
+pub no-f-e : octets "f" ≡ octets "e" → ⊥
 no-f-e z = let z′ : _≡_ {A = ℕ} 102 101 = cc in omega arith
 
-unread : {v : Value} {i : ℕ} → v ≡ Val.Is i → v ≡ Val.Nothing → ⊥
+pub unread : {v : Value} {i : ℕ} → v ≡ Val.Is i → v ≡ Val.Nothing → ⊥
 unread p q = let z : _≡_ {A = ℕ} 0 1 = cc in omega arith
 
 -- a parameter that may stand there is small
-parameter-small : (holds : Holds) (k : ℕ) → parameterOk holds k ≡ true → k ≤ 999
+pub parameter-small : (holds : Holds) (k : ℕ) → parameterOk holds k ≡ true → k ≤ 999
 parameter-small holds k e =
     let (a, b) = both-true (holds && leb 1 k) (leb k 64) e in
     let l = leb-true k 64 b in

@@ -1,19 +1,20 @@
 -- The layout of the work room, said once: which of its 32-bit words holds what (document 01, "Sizes"). The tables of rules and candidates, the supposed clauses, then
 -- bindings in frames, a stack from a fixed word on. Everything from the stack's top on is free. That 8,192 words are always enough is proved of it in proofs/EnoughLaws.
 use Prim.Native.Nat.{ℕ, _+_, _*_, _≤_}
+use Rattle.packet.specs.File.{mostLevels, mostMembers}
 
 -- document 01's sizes, as far as they bound the room
 abbrev pub words : ℕ
 words = 8192
 
 abbrev pub rulesAtMost : ℕ
-rulesAtMost = 256
+rulesAtMost = mostMembers
 
 abbrev pub candidatesAtMost : ℕ
-candidatesAtMost = 256
+candidatesAtMost = mostMembers
 
 abbrev pub levels : ℕ
-levels = 64
+levels = mostLevels
 
 -- the number of rules, and where rule k starts in its file
 abbrev pub rulesWord : ℕ

@@ -4,3 +4,4 @@ pub mod Spot
 pub mod Table
 pub mod Where
 pub mod Term
+pub mod Head

@@ -4,6 +4,7 @@ mod equal;
 mod file;
 mod frame;
 mod moves;
+mod table;
 mod words;
 
 pub use equal::same_atoms;
@@ -20,6 +21,9 @@ pub use moves::plus;
 pub use moves::supposes;
 pub use moves::within;
 pub use moves::word_there;
+pub use table::fill_candidates;
+pub use table::fill_rules;
+pub use table::may_use;
 
 // Which file a formula or a term stands in.
 pub enum Source {
