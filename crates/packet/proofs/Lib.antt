@@ -15,3 +15,4 @@ pub mod MemberLaws
 pub mod FileLaws
 pub mod GoodLaws
 pub mod PacketLaws
+pub mod OffsetLaws
