@@ -16,3 +16,5 @@ pub mod FileLaws
 pub mod GoodLaws
 pub mod PacketLaws
 pub mod OffsetLaws
+pub mod CountLaws
+pub mod JudgedLaws

@@ -14,3 +14,4 @@ pub mod Shape
 pub mod Bars
 pub mod Refusal
 pub mod Sound
+pub mod Judged

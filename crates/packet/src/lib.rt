@@ -1,9 +1,16 @@
 // The table of words and the four files read (document 01, "The carrier and the words", "Sizes", "What comes back").
 mod bars;
+mod count;
+mod files;
 mod shape;
 mod table;
 mod words;
 
+pub use files::Judged;
+pub use files::Read;
+pub use files::judge_file;
+pub use files::read_books;
+pub use files::read_packet;
 pub use table::Follows;
 pub use table::Row;
 pub use table::due_after;
