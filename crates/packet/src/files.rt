@@ -20,6 +20,7 @@ ghost use Rattle.packet.specs.Judged.{barsJudged, sizesJudged, wordsJudg
 
 // The sizes: bytes of a file, levels of lists.
 const MOST_BYTES: usize = 16384;
+
 const MOST_LEVELS: usize = 64;
 
 // What is found of one file: nothing wrong, and how many rules or candidates it has; or the refusal and its place.
