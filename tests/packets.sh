@@ -5,7 +5,7 @@ set -eu
 cd "$(dirname "$0")/.."
 room=$(mktemp -d)
 trap 'rm -rf "$room"' EXIT
-wrong=0 asked=0
+wrong=0 asked=0 by_second=0 by_desk=0
 
 fail() {
   echo "$*"
@@ -29,6 +29,7 @@ fi
 
 # The second program prints the strip that it finds after the line.
 ask_second() { # FOLDER LINE WORD..
+  by_second=$((by_second + 1))
   due=$2 command=$3
   case $2 in found*) due="$2 $(cat "$1/strip.sx")" ;; esac
   in=$1
@@ -39,6 +40,7 @@ ask_second() { # FOLDER LINE WORD..
 
 # The desk is asked in a copy. Refused, it leaves strip.sx as it was; found, it leaves the strip; it changes nothing else.
 ask_desk() { # FOLDER LINE WORD..
+  by_desk=$((by_desk + 1))
   folder=$1 line=$2 command=$3
   shift 3
   rm -rf "$room/packet"
@@ -82,5 +84,5 @@ for expected in packets/*/expected packets/*/*/expected; do
     ! has "$program" || ask_desk "$folder" "$line" $question
   done 3< "$expected"
 done
-echo "packets: $asked questions, $wrong answers wrong"
+echo "packets: $asked questions, $by_second answered by the second program, $by_desk by the desk; $wrong wrong"
 [ "$wrong" -eq 0 ]
