@@ -1,2 +1,4 @@
 pub mod ProvableLaws
 pub mod WalkLaws
+pub mod ChosenLaws
+pub mod TakenLaws

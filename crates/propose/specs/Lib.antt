@@ -1,2 +1,3 @@
 pub mod Proposed
 pub mod Provable
+pub mod Chosen
