@@ -4,6 +4,7 @@ pub mod ListLaws
 pub mod PlaceLaws
 pub mod NumberLaws
 pub mod PositionLaws
+pub mod NodeLaws
 pub mod FitsLaws
 pub mod CheckLaws
 pub mod Judgement

@@ -26,7 +26,8 @@ abbrev mutual
   highests Terms.nil = 0
   highests (Terms.cons t ts) = max (highest t) (highests ts)
 
--- what stands in for a variable that nothing is bound to, and for a candidate that is not listed: `e` 0, which is no parameter
+-- what stands in for a variable that nothing is bound to, and for a candidate that is not listed: `e` 0, which is no parameter. In a packet that is read it never comes up at a node that
+-- fits: refusal 5, and Fair (specs/Scoped) among trees, exclude free variables in rules and goal and `e` 0 in candidates, and such a node names listed candidates only (May, specs/Proves)
 abbrev pub nothing : Term
 nothing = Term.e 0
 

@@ -1,4 +1,5 @@
 -- Document 01's cases 1 to 10 ("Strips to try, on both sides"), taken as trees: what is asked and what the document answers. A place is a position here, and the length in bytes of case 4 is left to the crates that know bytes.
+-- Two tables more, of the same form: the options in order, and height and nodes.
 use Prim.Native.Nat.{ℕ, zero, suc}
 use mathlib.Core.List.{List, [], _∷_}
 use mathlib.Core.Option.{Option, none, some}
@@ -99,6 +100,12 @@ options =
     ∷ (Asked.search (record { rules = Clause.andD (Clause.atomD p) (Clause.atomD p) ∷ []; goal = Goal.atom p; terms = [] }) (1 ∷ []), Answer.found (some (Strip.use₀ 0 (Step.l ∷ [])) ∷ []))
     ∷ (Asked.search (record { rules = Clause.allD tt (Clause.andD (Clause.atomD q) (Clause.atomD p)) ∷ []; goal = Goal.atom p; terms = p7 ∷ p7 ∷ [] }) (1 ∷ []), Answer.found (some (Strip.use₀ 0 (Step.n 0 ∷ Step.r ∷ [])) ∷ []))
     ∷ (Asked.search (record { rules = Clause.impD (Goal.atom q) p ∷ Clause.atomD p ∷ Clause.atomD q ∷ []; goal = Goal.atom p; terms = [] }) (1 ∷ 2 ∷ []), Answer.found (some (Strip.use₀ 1 []) ∷ some (Strip.use₁ 0 [] (Strip.use₀ 2 [])) ∷ []))
+    ∷ []
+
+-- height and nodes where they differ: ⊤ ∧ (⊤ ∧ ⊤) has five nodes and the height 3
+abbrev pub counts : List (Asked × Answer)
+counts =
+    (Asked.judge (bare (Goal.and Goal.top (Goal.and Goal.top Goal.top))) (Strip.and Strip.top (Strip.and Strip.top Strip.top)), Answer.judged (Judged.fits 3 5))
     ∷ []
 
 abbrev pub answers : List (Asked × Answer) → List Answer

@@ -11,7 +11,8 @@ use Rattle.harrop.specs.declared.Binding.the-variants.{Candidate}
 use Rattle.harrop.specs.Formula.{Term, Atom, Goal, Clause, Step}
 use Rattle.harrop.specs.Bindings.{Bindings, highest}
 
--- the candidate terms, and what is asked of one besides document 01's two conditions: of the open parameters, by what their quantifiers carry, and of what the variable's own carries
+-- the candidate terms, and what is asked of one besides document 01's two conditions. `suits o q t`: the term t may stand for a variable whose quantifier carries q, where o is what the
+-- quantifiers of the open parameters carry, the latest first
 pub record Candidates (Q : Type 0) : Type 0 where
   pub terms : List Term
   pub suits : List Q → Q → Term → Bool
