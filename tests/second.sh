@@ -14,9 +14,16 @@ stored() {
   "$second" "$2-answers" < "../crates/$1/data/cases" | cmp - "../crates/$1/stdout"
 }
 
+# The same where the cases are in two parts.
+stored_parts() {
+  for part in 1 2; do "$second" "$2-cases" "$part" | cmp - "../crates/$1/data/cases$part"; done
+  for part in 1 2; do "$second" "$2-answers" < "../crates/$1/data/cases$part"; done | cmp - "../crates/$1/stdout"
+}
+
 "$second" carrier-cases | "$second" carrier-counts
 { "$second" packet-cases 1; "$second" packet-cases 2; } | "$second" packet-counts
 { "$second" judge-cases 1; "$second" judge-cases 2; } | "$second" judge-counts
 "$second" search-cases | "$second" search-counts
 
 stored carrier_cases carrier
+stored_parts packet_cases packet
