@@ -1,0 +1,214 @@
+use native.Mathlib.Omega.{arith}
+use borrow.Author.Needs.{needs}
+use Prim.Native.Nat.{ℕ, _<_}
+use Rattle.judge.proofs.WalkLaws.{strip-nests}
+use borrow.Fn.Kinds.{In}
+use borrow.Fn.PlainCycle.{Measures, is, falls, and}
+use Rattle.judge.proofs.node.node.Reads as node
+use Rattle.judge.proofs.node.node.Kinds as node-kinds
+use Rattle.judge.proofs.node.+node.Lts-node as node-lts
+use Rattle.judge.proofs.node.close.Reads as close-reads
+use Rattle.judge.proofs.node.enter.Reads as enter-reads
+use Rattle.judge.proofs.node.higher.Reads as higher-reads
+use Rattle.judge.proofs.node.leaf.Reads as leaf-reads
+use Rattle.judge.proofs.node.+node.{statement}
+use Rattle.judge.proofs.node.+node.Tie.{close}
+
+abbrev μ-node : Measures 3 node-kinds.ps ℕ
+μ-node κs a = a .1 .1 .1 .1 .1 .1 .1 .1 .0
+
+abbrev node-at : ℕ → In 3 node-kinds.ps
+node-at t = and 3 node-kinds.ps (is 3 node-kinds.ps μ-node t) node.Pre
+
+abbrev node-below : ℕ → In 3 node-kinds.ps
+node-below t = and 3 node-kinds.ps (falls 3 node-kinds.ps _<_ μ-node t) node.Pre
+
+-- src/node.rt:108:9
+node-returns : (t : ℕ) → node-lts.Need-returns (enter-reads.Asked, enter-reads.Learnt, leaf-reads.Asked, leaf-reads.Learnt, node-below t, node.Post, close-reads.Asked, close-reads.Learnt, higher-reads.Asked, higher-reads.Learnt) (node-at t) node.Post
+node-returns t c = (tt, λ us P o h bs g ready. absurd (omega (arith, strip-nests P, ready .nests, c .if1 .taken)))
+
+-- src/node.rt:110:9
+node-enter-requires : (t : ℕ) → node-lts.Need-enter-requires (enter-reads.Asked, enter-reads.Learnt, leaf-reads.Asked, leaf-reads.Learnt, node-below t, node.Post, close-reads.Asked, close-reads.Learnt, higher-reads.Asked, higher-reads.Learnt) (node-at t) node.Post
+node-enter-requires t c κs = search needs
+
+-- src/node.rt:112:28
+node-enum-told : (t : ℕ) → node-lts.Need-enum-told (enter-reads.Asked, enter-reads.Learnt, leaf-reads.Asked, leaf-reads.Learnt, node-below t, node.Post, close-reads.Asked, close-reads.Learnt, higher-reads.Asked, higher-reads.Learnt) (node-at t) node.Post
+node-enum-told t c = search needs
+
+-- src/node.rt:113:23
+node-enum-known-e : (t : ℕ) → node-lts.Need-enum-known-e (enter-reads.Asked, enter-reads.Learnt, leaf-reads.Asked, leaf-reads.Learnt, node-below t, node.Post, close-reads.Asked, close-reads.Learnt, higher-reads.Asked, higher-reads.Learnt) (node-at t) node.Post
+node-enum-known-e t c = search needs
+
+-- src/node.rt:113:32
+node-leaf-requires : (t : ℕ) → node-lts.Need-leaf-requires (enter-reads.Asked, enter-reads.Learnt, leaf-reads.Asked, leaf-reads.Learnt, node-below t, node.Post, close-reads.Asked, close-reads.Learnt, higher-reads.Asked, higher-reads.Learnt) (node-at t) node.Post
+node-leaf-requires t c κs = search needs
+
+-- src/node.rt:114:22
+node-enum-known-e-2 : (t : ℕ) → node-lts.Need-enum-known-e-2 (enter-reads.Asked, enter-reads.Learnt, leaf-reads.Asked, leaf-reads.Learnt, node-below t, node.Post, close-reads.Asked, close-reads.Learnt, higher-reads.Asked, higher-reads.Learnt) (node-at t) node.Post
+node-enum-known-e-2 t c = search needs
+
+-- src/node.rt:115:77
+node-sub-node : (t : ℕ) → node-lts.Need-sub-node (enter-reads.Asked, enter-reads.Learnt, leaf-reads.Asked, leaf-reads.Learnt, node-below t, node.Post, close-reads.Asked, close-reads.Learnt, higher-reads.Asked, higher-reads.Learnt) (node-at t) node.Post
+node-sub-node t c = search needs
+
+-- src/node.rt:115:17
+node-node-requires : (t : ℕ) → node-lts.Need-node-requires (enter-reads.Asked, enter-reads.Learnt, leaf-reads.Asked, leaf-reads.Learnt, node-below t, node.Post, close-reads.Asked, close-reads.Learnt, higher-reads.Asked, higher-reads.Learnt) (node-at t) node.Post
+node-node-requires t c κs = search needs
+
+-- src/node.rt:117:33
+node-enum-known-one : (t : ℕ) → node-lts.Need-enum-known-one (enter-reads.Asked, enter-reads.Learnt, leaf-reads.Asked, leaf-reads.Learnt, node-below t, node.Post, close-reads.Asked, close-reads.Learnt, higher-reads.Asked, higher-reads.Learnt) (node-at t) node.Post
+node-enum-known-one t c = search needs
+
+-- src/node.rt:118:31
+node-enum-known-one-2 : (t : ℕ) → node-lts.Need-enum-known-one-2 (enter-reads.Asked, enter-reads.Learnt, leaf-reads.Asked, leaf-reads.Learnt, node-below t, node.Post, close-reads.Asked, close-reads.Learnt, higher-reads.Asked, higher-reads.Learnt) (node-at t) node.Post
+node-enum-known-one-2 t c = search needs
+
+-- src/node.rt:118:46
+node-close-requires : (t : ℕ) → node-lts.Need-close-requires (enter-reads.Asked, enter-reads.Learnt, leaf-reads.Asked, leaf-reads.Learnt, node-below t, node.Post, close-reads.Asked, close-reads.Learnt, higher-reads.Asked, higher-reads.Learnt) (node-at t) node.Post
+node-close-requires t c κs = search needs
+
+-- src/node.rt:121:22
+node-enum-known-e-3 : (t : ℕ) → node-lts.Need-enum-known-e-3 (enter-reads.Asked, enter-reads.Learnt, leaf-reads.Asked, leaf-reads.Learnt, node-below t, node.Post, close-reads.Asked, close-reads.Learnt, higher-reads.Asked, higher-reads.Learnt) (node-at t) node.Post
+node-enum-known-e-3 t c = search needs
+
+-- src/node.rt:122:78
+node-sub-node-2 : (t : ℕ) → node-lts.Need-sub-node-2 (enter-reads.Asked, enter-reads.Learnt, leaf-reads.Asked, leaf-reads.Learnt, node-below t, node.Post, close-reads.Asked, close-reads.Learnt, higher-reads.Asked, higher-reads.Learnt) (node-at t) node.Post
+node-sub-node-2 t c = search needs
+
+-- src/node.rt:122:17
+node-node-requires-2 : (t : ℕ) → node-lts.Need-node-requires-2 (enter-reads.Asked, enter-reads.Learnt, leaf-reads.Asked, leaf-reads.Learnt, node-below t, node.Post, close-reads.Asked, close-reads.Learnt, higher-reads.Asked, higher-reads.Learnt) (node-at t) node.Post
+node-node-requires-2 t c κs = search needs
+
+-- src/node.rt:124:33
+node-enum-known-one-3 : (t : ℕ) → node-lts.Need-enum-known-one-3 (enter-reads.Asked, enter-reads.Learnt, leaf-reads.Asked, leaf-reads.Learnt, node-below t, node.Post, close-reads.Asked, close-reads.Learnt, higher-reads.Asked, higher-reads.Learnt) (node-at t) node.Post
+node-enum-known-one-3 t c = search needs
+
+-- src/node.rt:125:31
+node-enum-known-one-4 : (t : ℕ) → node-lts.Need-enum-known-one-4 (enter-reads.Asked, enter-reads.Learnt, leaf-reads.Asked, leaf-reads.Learnt, node-below t, node.Post, close-reads.Asked, close-reads.Learnt, higher-reads.Asked, higher-reads.Learnt) (node-at t) node.Post
+node-enum-known-one-4 t c = search needs
+
+-- src/node.rt:126:85
+node-sub-node-3 : (t : ℕ) → node-lts.Need-sub-node-3 (enter-reads.Asked, enter-reads.Learnt, leaf-reads.Asked, leaf-reads.Learnt, node-below t, node.Post, close-reads.Asked, close-reads.Learnt, higher-reads.Asked, higher-reads.Learnt) (node-at t) node.Post
+node-sub-node-3 t c = search needs
+
+-- src/node.rt:126:25
+node-node-requires-3 : (t : ℕ) → node-lts.Need-node-requires-3 (enter-reads.Asked, enter-reads.Learnt, leaf-reads.Asked, leaf-reads.Learnt, node-below t, node.Post, close-reads.Asked, close-reads.Learnt, higher-reads.Asked, higher-reads.Learnt) (node-at t) node.Post
+node-node-requires-3 t c κs = search needs
+
+-- src/node.rt:128:41
+node-enum-known-two : (t : ℕ) → node-lts.Need-enum-known-two (enter-reads.Asked, enter-reads.Learnt, leaf-reads.Asked, leaf-reads.Learnt, node-below t, node.Post, close-reads.Asked, close-reads.Learnt, higher-reads.Asked, higher-reads.Learnt) (node-at t) node.Post
+node-enum-known-two t c = search needs
+
+-- src/node.rt:129:39
+node-enum-known-two-2 : (t : ℕ) → node-lts.Need-enum-known-two-2 (enter-reads.Asked, enter-reads.Learnt, leaf-reads.Asked, leaf-reads.Learnt, node-below t, node.Post, close-reads.Asked, close-reads.Learnt, higher-reads.Asked, higher-reads.Learnt) (node-at t) node.Post
+node-enum-known-two-2 t c = search needs
+
+-- src/node.rt:130:58
+node-higher-requires : (t : ℕ) → node-lts.Need-higher-requires (enter-reads.Asked, enter-reads.Learnt, leaf-reads.Asked, leaf-reads.Learnt, node-below t, node.Post, close-reads.Asked, close-reads.Learnt, higher-reads.Asked, higher-reads.Learnt) (node-at t) node.Post
+node-higher-requires t c κs = search needs
+
+-- src/node.rt:130:72
+node-add-close : (t : ℕ) → node-lts.Need-add-close (enter-reads.Asked, enter-reads.Learnt, leaf-reads.Asked, leaf-reads.Learnt, node-below t, node.Post, close-reads.Asked, close-reads.Learnt, higher-reads.Asked, higher-reads.Learnt) (node-at t) node.Post
+node-add-close t c = search needs
+
+-- src/node.rt:130:29
+node-close-requires-2 : (t : ℕ) → node-lts.Need-close-requires-2 (enter-reads.Asked, enter-reads.Learnt, leaf-reads.Asked, leaf-reads.Learnt, node-below t, node.Post, close-reads.Asked, close-reads.Learnt, higher-reads.Asked, higher-reads.Learnt) (node-at t) node.Post
+node-close-requires-2 t c κs = search needs
+
+-- src/node.rt:93:1
+node-same-length : (t : ℕ) → node-lts.Need-same-length (enter-reads.Asked, enter-reads.Learnt, leaf-reads.Asked, leaf-reads.Learnt, node-below t, node.Post, close-reads.Asked, close-reads.Learnt, higher-reads.Asked, higher-reads.Learnt) (node-at t) node.Post
+node-same-length t c = search needs
+
+-- src/node.rt:93:1
+node-returns-2 : (t : ℕ) → node-lts.Need-returns-2 (enter-reads.Asked, enter-reads.Learnt, leaf-reads.Asked, leaf-reads.Learnt, node-below t, node.Post, close-reads.Asked, close-reads.Learnt, higher-reads.Asked, higher-reads.Learnt) (node-at t) node.Post
+node-returns-2 t c = ?
+
+-- src/node.rt:93:1
+node-same-length-2 : (t : ℕ) → node-lts.Need-same-length-2 (enter-reads.Asked, enter-reads.Learnt, leaf-reads.Asked, leaf-reads.Learnt, node-below t, node.Post, close-reads.Asked, close-reads.Learnt, higher-reads.Asked, higher-reads.Learnt) (node-at t) node.Post
+node-same-length-2 t c = search needs
+
+-- src/node.rt:93:1
+node-returns-3 : (t : ℕ) → node-lts.Need-returns-3 (enter-reads.Asked, enter-reads.Learnt, leaf-reads.Asked, leaf-reads.Learnt, node-below t, node.Post, close-reads.Asked, close-reads.Learnt, higher-reads.Asked, higher-reads.Learnt) (node-at t) node.Post
+node-returns-3 t c = search needs
+
+-- src/node.rt:93:1
+node-same-length-3 : (t : ℕ) → node-lts.Need-same-length-3 (enter-reads.Asked, enter-reads.Learnt, leaf-reads.Asked, leaf-reads.Learnt, node-below t, node.Post, close-reads.Asked, close-reads.Learnt, higher-reads.Asked, higher-reads.Learnt) (node-at t) node.Post
+node-same-length-3 t c = search needs
+
+-- src/node.rt:93:1
+node-returns-4 : (t : ℕ) → node-lts.Need-returns-4 (enter-reads.Asked, enter-reads.Learnt, leaf-reads.Asked, leaf-reads.Learnt, node-below t, node.Post, close-reads.Asked, close-reads.Learnt, higher-reads.Asked, higher-reads.Learnt) (node-at t) node.Post
+node-returns-4 t c = search needs
+
+-- src/node.rt:93:1
+node-same-length-4 : (t : ℕ) → node-lts.Need-same-length-4 (enter-reads.Asked, enter-reads.Learnt, leaf-reads.Asked, leaf-reads.Learnt, node-below t, node.Post, close-reads.Asked, close-reads.Learnt, higher-reads.Asked, higher-reads.Learnt) (node-at t) node.Post
+node-same-length-4 t c = search needs
+
+-- src/node.rt:93:1
+node-returns-5 : (t : ℕ) → node-lts.Need-returns-5 (enter-reads.Asked, enter-reads.Learnt, leaf-reads.Asked, leaf-reads.Learnt, node-below t, node.Post, close-reads.Asked, close-reads.Learnt, higher-reads.Asked, higher-reads.Learnt) (node-at t) node.Post
+node-returns-5 t c = search needs
+
+-- src/node.rt:93:1
+node-same-length-5 : (t : ℕ) → node-lts.Need-same-length-5 (enter-reads.Asked, enter-reads.Learnt, leaf-reads.Asked, leaf-reads.Learnt, node-below t, node.Post, close-reads.Asked, close-reads.Learnt, higher-reads.Asked, higher-reads.Learnt) (node-at t) node.Post
+node-same-length-5 t c = search needs
+
+-- src/node.rt:93:1
+node-returns-6 : (t : ℕ) → node-lts.Need-returns-6 (enter-reads.Asked, enter-reads.Learnt, leaf-reads.Asked, leaf-reads.Learnt, node-below t, node.Post, close-reads.Asked, close-reads.Learnt, higher-reads.Asked, higher-reads.Learnt) (node-at t) node.Post
+node-returns-6 t c = search needs
+
+-- src/node.rt:93:1
+node-same-length-6 : (t : ℕ) → node-lts.Need-same-length-6 (enter-reads.Asked, enter-reads.Learnt, leaf-reads.Asked, leaf-reads.Learnt, node-below t, node.Post, close-reads.Asked, close-reads.Learnt, higher-reads.Asked, higher-reads.Learnt) (node-at t) node.Post
+node-same-length-6 t c = search needs
+
+-- src/node.rt:93:1
+node-returns-7 : (t : ℕ) → node-lts.Need-returns-7 (enter-reads.Asked, enter-reads.Learnt, leaf-reads.Asked, leaf-reads.Learnt, node-below t, node.Post, close-reads.Asked, close-reads.Learnt, higher-reads.Asked, higher-reads.Learnt) (node-at t) node.Post
+node-returns-7 t c = search needs
+
+-- src/node.rt:93:1
+node-same-length-7 : (t : ℕ) → node-lts.Need-same-length-7 (enter-reads.Asked, enter-reads.Learnt, leaf-reads.Asked, leaf-reads.Learnt, node-below t, node.Post, close-reads.Asked, close-reads.Learnt, higher-reads.Asked, higher-reads.Learnt) (node-at t) node.Post
+node-same-length-7 t c = search needs
+
+-- src/node.rt:93:1
+node-returns-8 : (t : ℕ) → node-lts.Need-returns-8 (enter-reads.Asked, enter-reads.Learnt, leaf-reads.Asked, leaf-reads.Learnt, node-below t, node.Post, close-reads.Asked, close-reads.Learnt, higher-reads.Asked, higher-reads.Learnt) (node-at t) node.Post
+node-returns-8 t c = search needs
+
+pub +node-spec : {M : Type 1} → statement M
++node-spec = close μ-node λ t. node-lts.spec (enter-reads.Asked, enter-reads.Learnt, leaf-reads.Asked, leaf-reads.Learnt, node-below t, node.Post, close-reads.Asked, close-reads.Learnt, higher-reads.Asked, higher-reads.Learnt)
+    (node-at t)
+    node.Post
+    (node-returns t)
+    (node-enter-requires t)
+    (node-enum-told t)
+    (node-enum-known-e t)
+    (node-leaf-requires t)
+    (node-enum-known-e-2 t)
+    (node-sub-node t)
+    (node-node-requires t)
+    (node-enum-known-one t)
+    (node-enum-known-one-2 t)
+    (node-close-requires t)
+    (node-enum-known-e-3 t)
+    (node-sub-node-2 t)
+    (node-node-requires-2 t)
+    (node-enum-known-one-3 t)
+    (node-enum-known-one-4 t)
+    (node-sub-node-3 t)
+    (node-node-requires-3 t)
+    (node-enum-known-two t)
+    (node-enum-known-two-2 t)
+    (node-higher-requires t)
+    (node-add-close t)
+    (node-close-requires-2 t)
+    (node-same-length t)
+    (node-returns-2 t)
+    (node-same-length-2 t)
+    (node-returns-3 t)
+    (node-same-length-3 t)
+    (node-returns-4 t)
+    (node-same-length-4 t)
+    (node-returns-5 t)
+    (node-same-length-5 t)
+    (node-returns-6 t)
+    (node-same-length-6 t)
+    (node-returns-7 t)
+    (node-same-length-7 t)
+    (node-returns-8 t)

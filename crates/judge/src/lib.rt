@@ -1,0 +1,2 @@
+// trial
+mod node;
