@@ -148,11 +148,21 @@ both-fit at start mid P X Y (Judged.fits h₁ n₁) (Judged.fits h₂ n₂) next
 both-fit at start mid P X Y (Judged.fits h₁ n₁) (Judged.misfit pos) next h n next′ h′ n′ e d f = let z : _≡_ {A = ℕ} 0 1 = cc in absurd (omega arith)
 both-fit at start mid P X Y (Judged.misfit pos) j next h n next′ h′ n′ e d f = let z : _≡_ {A = ℕ} 0 1 = cc in absurd (omega arith)
 
+-- a node's own judgement, where the answer is known
+pub enter-is : {rs gs ts ss room after : List ℕ} {rules : ℕ} {us : List Term} {w : Where} {at : ℕ} {P : Strip} {j : Judged} {r e : Entered} → r ≡ e → Enters rs gs ts ss room after rules us w at P j r → Enters rs gs ts ss room after rules us w at P j e
+enter-is {rs} {gs} {ts} {ss} {room} {after} {rules} {us} {w} {at} {P} {j} q x = subst (λ (y : Entered). Enters rs gs ts ss room after rules us w at P j y) q x
+
+pub judges-is : {room after : List ℕ} {w : Where} {at : ℕ} {P : Strip} {j : Judged} {r e : Outcome} → r ≡ e → Judges room after w at P j r → Judges room after w at P j e
+judges-is {room} {after} {w} {at} {P} {j} q x = record { kept = x .kept; answer = sym q ∙ x .answer }
+
+pub bounded-is : (size at nest : ℕ) {r e : Outcome} → r ≡ e → Bounded size at nest r → Bounded size at nest e
+bounded-is size at nest q x = subst (λ (y : Outcome). Bounded size at nest y) q x
+
 -- what the walk said of a part
 abbrev pub Inner : {rs gs ts ss room : List ℕ} {rules : ℕ} {us : List Term} {w w′ : Where} {at start i : ℕ} {P part : Strip} {k : Judged} → Part rs gs ts ss room rules us w w′ at start P part i k → List ℕ → List ℕ → ℕ → Outcome → Type 0
 Inner {us = us} {w′ = w′} {part = part} p before last start r = Judges before last w′ start part (check (listed us) part (p .parameters) (p .clauses) (p .bindings) (p .goal)) r
 
-module _ (rs gs ts ss : List ℕ) (rules candidates : ℕ) (us : List Term) where
+module _ {rs gs ts ss : List ℕ} {rules candidates : ℕ} {us : List Term} where
   module _ {room after : List ℕ} {w : Where} {at nest : ℕ} {P : Strip} {o : List Plain} {c : Hand Plain} {bs : Bindings} {g : Goal Plain} (ready : Ready rs gs ts ss room rules candidates w at nest us P o c bs g) where
     pub misfit-node : Enters rs gs ts ss room after rules us w at P (check (listed us) P o c bs g) E.Misfit → Judges room after w at P (check (listed us) P o c bs g) (O.Misfit at)
     misfit-node n = record { kept = n .kept; answer = ap O.Misfit (omega (arith, offset-root P)) ∙ ap (outcome at P) (sym (n .told)) }
@@ -176,16 +186,16 @@ module _ (rs gs ts ss : List ℕ) (rules candidates : ℕ) (us : List Term) wher
           roomy = omega (arith, p .room-left, ready .roomy);
         }
 
-    pub one-misfit : (last : List ℕ) (w′ : Where) (start m : ℕ) (e : Enters rs gs ts ss room after rules us w at P (check (listed us) P o c bs g) (E.One start w′)) → Inner (e .told .2) after last start (O.Misfit m) → Judges room last w at P (check (listed us) P o c bs g) (O.Misfit m)
-    one-misfit last w′ start m e d =
+    pub one-misfit : {last : List ℕ} {w′ : Where} {start m : ℕ} (e : Enters rs gs ts ss room after rules us w at P (check (listed us) P o c bs g) (E.One start w′)) → Inner (e .told .2) after last start (O.Misfit m) → Judges room last w at P (check (listed us) P o c bs g) (O.Misfit m)
+    one-misfit {last} {w′} {start} {m} e d =
         let (part, k, p, j, whole) = e .told in
         record {
           kept = kept-then room after last (p .supposes) (p .higher) (e .kept) (d .kept);
           answer = above-misfit at start P part k m (d .answer ∙ ap (outcome start part) (sym (p .says))) (p .offsets) ∙ ap (outcome at P) (sym j);
         }
 
-    pub one-fits : (last : List ℕ) (w′ : Where) (start next h n : ℕ) (e : Enters rs gs ts ss room after rules us w at P (check (listed us) P o c bs g) (E.One start w′)) → Inner (e .told .2) after last start (O.Fits next h n) → Bounded (length ss) start (nest - 1) (O.Fits next h n) → (nest ≡ 0 → ⊥) → (next < length ss) × ((at + n ≤ next) × ((h < nest) × Judges room last w at P (check (listed us) P o c bs g) (O.Fits (next + 1) (h + 1) (n + 1))))
-    one-fits last w′ start next h n e d b z =
+    pub one-fits : {last : List ℕ} {w′ : Where} {start next h n : ℕ} (e : Enters rs gs ts ss room after rules us w at P (check (listed us) P o c bs g) (E.One start w′)) → Inner (e .told .2) after last start (O.Fits next h n) → Bounded (length ss) start (nest - 1) (O.Fits next h n) → (nest ≡ 0 → ⊥) → (next < length ss) × ((at + n ≤ next) × ((h < nest) × Judges room last w at P (check (listed us) P o c bs g) (O.Fits (next + 1) (h + 1) (n + 1))))
+    one-fits {last} {w′} {start} {next} {h} {n} e d b z =
         let (part, k, p, j, whole) = e .told in
         let a = d .answer ∙ ap (outcome start part) (sym (p .says)) in
         let q = fits-at start part k next h n a in
@@ -204,8 +214,8 @@ module _ (rs gs ts ss : List ℕ) (rules candidates : ℕ) (us : List Term) wher
           ),
         )
 
-    pub two-first : (last : List ℕ) (w′ w″ : Where) (start m : ℕ) (e : Enters rs gs ts ss room after rules us w at P (check (listed us) P o c bs g) (E.Two start w′ w″)) → Inner (e .told .4) after last start (O.Misfit m) → Judges room last w at P (check (listed us) P o c bs g) (O.Misfit m)
-    two-first last w′ w″ start m e d =
+    pub two-first : {last : List ℕ} {w′ w″ : Where} {start m : ℕ} (e : Enters rs gs ts ss room after rules us w at P (check (listed us) P o c bs g) (E.Two start w′ w″)) → Inner (e .told .4) after last start (O.Misfit m) → Judges room last w at P (check (listed us) P o c bs g) (O.Misfit m)
+    two-first {last} {w′} {w″} {start} {m} e d =
         let (X, Y, k, l, p, q, s, t, j, whole) = e .told in
         record {
           kept = kept-then room after last (p .supposes) (p .higher) (e .kept) (d .kept);
@@ -213,8 +223,8 @@ module _ (rs gs ts ss : List ℕ) (rules candidates : ℕ) (us : List Term) wher
         }
 
     -- the second part is ready when the first is done
-    pub second-ready : (last : List ℕ) (w′ w″ : Where) (start mid h n : ℕ) (e : Enters rs gs ts ss room after rules us w at P (check (listed us) P o c bs g) (E.Two start w′ w″)) → Inner (e .told .4) after last start (O.Fits mid h n) → length last ≡ length room → (nest ≡ 0 → ⊥) → Ready rs gs ts ss last rules candidates w″ mid (nest - 1) us (e .told .1) (e .told .5 .parameters) (e .told .5 .clauses) (e .told .5 .bindings) (e .told .5 .goal)
-    second-ready last w′ w″ start mid h n e d ll z =
+    pub second-ready : {last : List ℕ} {w′ w″ : Where} {start mid h n : ℕ} (e : Enters rs gs ts ss room after rules us w at P (check (listed us) P o c bs g) (E.Two start w′ w″)) → Inner (e .told .4) after last start (O.Fits mid h n) → length last ≡ length room → (nest ≡ 0 → ⊥) → Ready rs gs ts ss last rules candidates w″ mid (nest - 1) us (e .told .1) (e .told .5 .parameters) (e .told .5 .clauses) (e .told .5 .bindings) (e .told .5 .goal)
+    second-ready {last} {w′} {w″} {start} {mid} {h} {n} e d ll z =
         let (X, Y, k, l, p, q, s, t, j, whole) = e .told in
         let a = fits-at start X k mid h n (d .answer ∙ ap (outcome start X) (sym (p .says))) in
         record {
@@ -226,8 +236,8 @@ module _ (rs gs ts ss : List ℕ) (rules candidates : ℕ) (us : List Term) wher
           roomy = omega (arith, q .room-left, ready .roomy);
         }
 
-    pub two-second : (last final : List ℕ) (w′ w″ : Where) (start mid h n m : ℕ) (e : Enters rs gs ts ss room after rules us w at P (check (listed us) P o c bs g) (E.Two start w′ w″)) → Inner (e .told .4) after last start (O.Fits mid h n) → Inner (e .told .5) last final mid (O.Misfit m) → Judges room final w at P (check (listed us) P o c bs g) (O.Misfit m)
-    two-second last final w′ w″ start mid h n m e d f =
+    pub two-second : {last final : List ℕ} {w′ w″ : Where} {start mid h n m : ℕ} (e : Enters rs gs ts ss room after rules us w at P (check (listed us) P o c bs g) (E.Two start w′ w″)) → Inner (e .told .4) after last start (O.Fits mid h n) → Inner (e .told .5) last final mid (O.Misfit m) → Judges room final w at P (check (listed us) P o c bs g) (O.Misfit m)
+    two-second {last} {final} {w′} {w″} {start} {mid} {h} {n} {m} e d f =
         let (X, Y, k, l, p, q, s, t, j, whole) = e .told in
         let x = d .answer ∙ ap (outcome start X) (sym (p .says)) in
         let a = fits-at start X k mid h n x in
@@ -236,8 +246,8 @@ module _ (rs gs ts ss : List ℕ) (rules candidates : ℕ) (us : List Term) wher
           answer = both-second at start mid P X Y k l mid h n m x (f .answer ∙ ap (outcome mid Y) (sym (q .says))) (λ pos. q .offsets pos ∙ ap (λ (i : ℕ). i + offsetOf Y pos) (sym a)) ∙ ap (outcome at P) (sym j);
         }
 
-    pub two-fit : (last final : List ℕ) (w′ w″ : Where) (start mid h n next h′ n′ : ℕ) (e : Enters rs gs ts ss room after rules us w at P (check (listed us) P o c bs g) (E.Two start w′ w″)) → Inner (e .told .4) after last start (O.Fits mid h n) → Inner (e .told .5) last final mid (O.Fits next h′ n′) → Bounded (length ss) start (nest - 1) (O.Fits mid h n) → Bounded (length ss) mid (nest - 1) (O.Fits next h′ n′) → (nest ≡ 0 → ⊥) → (next < length ss) × ((at + (n + n′) ≤ next) × ((max h h′ < nest) × Judges room final w at P (check (listed us) P o c bs g) (O.Fits (next + 1) (max h h′ + 1) (n + n′ + 1))))
-    two-fit last final w′ w″ start mid h n next h′ n′ e d f b b′ z =
+    pub two-fit : {last final : List ℕ} {w′ w″ : Where} {start mid h n next h′ n′ : ℕ} (e : Enters rs gs ts ss room after rules us w at P (check (listed us) P o c bs g) (E.Two start w′ w″)) → Inner (e .told .4) after last start (O.Fits mid h n) → Inner (e .told .5) last final mid (O.Fits next h′ n′) → Bounded (length ss) start (nest - 1) (O.Fits mid h n) → Bounded (length ss) mid (nest - 1) (O.Fits next h′ n′) → (nest ≡ 0 → ⊥) → (m : ℕ) → m ≡ max h h′ → (next < length ss) × ((at + (n + n′) ≤ next) × ((m < nest) × Judges room final w at P (check (listed us) P o c bs g) (O.Fits (next + 1) (m + 1) (n + n′ + 1))))
+    two-fit {last} {final} {w′} {w″} {start} {mid} {h} {n} {next} {h′} {n′} e d f b b′ z m u =
         let (X, Y, k, l, p, q, s, t, j, whole) = e .told in
         let x = d .answer ∙ ap (outcome start X) (sym (p .says)) in
         let y = f .answer ∙ ap (outcome mid Y) (sym (q .says)) in
@@ -252,7 +262,7 @@ module _ (rs gs ts ss : List ℕ) (rules candidates : ℕ) (us : List Term) wher
               omega arith,
               record {
                 kept = kept-then room last final (q .supposes) (q .higher) (kept-then room after last (p .supposes) (p .higher) (e .kept) (d .kept)) (f .kept);
-                answer = both-fit at start mid P X Y k l mid h n next h′ n′ x y (omega arith) ∙ ap (outcome at P) (sym j);
+                answer = fits-same refl (omega arith) refl ∙ both-fit at start mid P X Y k l mid h n next h′ n′ x y (omega arith) ∙ ap (outcome at P) (sym j);
               },
             ),
           ),

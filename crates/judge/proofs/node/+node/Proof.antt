@@ -1,7 +1,9 @@
+use mathlib.Core.Path.{sym, _∙_, ap, subst}
 use native.Mathlib.Omega.{arith}
 use borrow.Author.Needs.{needs}
-use Prim.Native.Nat.{ℕ, _<_}
-use Rattle.judge.proofs.WalkLaws.{strip-nests}
+use Prim.Native.Nat.{ℕ, _<_, _+_}
+use Rattle.judge.specs.declared.node.Outcome.the-variants as O
+use Rattle.judge.proofs.WalkLaws.{strip-nests, enter-is, judges-is, bounded-is, misfit-node, leaf-node, part-ready, one-misfit, one-fits, two-first, second-ready, two-second, two-fit}
 use borrow.Fn.Kinds.{In}
 use borrow.Fn.PlainCycle.{Measures, is, falls, and}
 use Rattle.judge.proofs.node.node.Reads as node
@@ -93,7 +95,7 @@ node-sub-node-3 t c = search needs
 
 -- src/node.rt:126:25
 node-node-requires-3 : (t : ℕ) → node-lts.Need-node-requires-3 (enter-reads.Asked, enter-reads.Learnt, leaf-reads.Asked, leaf-reads.Learnt, node-below t, node.Post, close-reads.Asked, close-reads.Learnt, higher-reads.Asked, higher-reads.Learnt) (node-at t) node.Post
-node-node-requires-3 t c κs = search needs
+node-node-requires-3 t c κs = (omega (arith, c .before .before .before .before .before .before .before .before .before .before .before .before .before .before .before .if1 .left, c .before .before .before .before .before .before .before .before .before .before .before .before .before .before .before .before .before .before .before .before .before .pre .0), tt)
 
 -- src/node.rt:128:41
 node-enum-known-two : (t : ℕ) → node-lts.Need-enum-known-two (enter-reads.Asked, enter-reads.Learnt, leaf-reads.Asked, leaf-reads.Learnt, node-below t, node.Post, close-reads.Asked, close-reads.Learnt, higher-reads.Asked, higher-reads.Learnt) (node-at t) node.Post
@@ -109,7 +111,10 @@ node-higher-requires t c κs = search needs
 
 -- src/node.rt:130:72
 node-add-close : (t : ℕ) → node-lts.Need-add-close (enter-reads.Asked, enter-reads.Learnt, leaf-reads.Asked, leaf-reads.Learnt, node-below t, node.Post, close-reads.Asked, close-reads.Learnt, higher-reads.Asked, higher-reads.Learnt) (node-at t) node.Post
-node-add-close t c = search needs
+node-add-close t c =
+    let b = bounded-is _ _ _ (c .before .before .before .before .before .before .before .before .before .one4 .given .1) (c .before .before .before .before .before .before .before .before .before .before .before .before .before .node2 .ensures .0) in
+    let d = bounded-is _ _ _ (c .before .before .two2 .given .1) (c .before .before .before .before .before .before .node3 .ensures .0) in
+    omega (arith, b .0, b .1, d .0, d .1 .0)
 
 -- src/node.rt:130:29
 node-close-requires-2 : (t : ℕ) → node-lts.Need-close-requires-2 (enter-reads.Asked, enter-reads.Learnt, leaf-reads.Asked, leaf-reads.Learnt, node-below t, node.Post, close-reads.Asked, close-reads.Learnt, higher-reads.Asked, higher-reads.Learnt) (node-at t) node.Post
@@ -121,7 +126,9 @@ node-same-length t c = search needs
 
 -- src/node.rt:93:1
 node-returns-2 : (t : ℕ) → node-lts.Need-returns-2 (enter-reads.Asked, enter-reads.Learnt, leaf-reads.Asked, leaf-reads.Learnt, node-below t, node.Post, close-reads.Asked, close-reads.Learnt, higher-reads.Asked, higher-reads.Learnt) (node-at t) node.Post
-node-returns-2 t c = ?
+node-returns-2 t c =
+    let x = c .before .before .before .before .before .before .before .before .before .before .before .before .args in
+    (tt, λ us P o h bs g ready. misfit-node ready (enter-is (c .enum-told .given .1) (c .before .before .before .before .enter .ensures us P o h bs g ready)))
 
 -- src/node.rt:93:1
 node-same-length-2 : (t : ℕ) → node-lts.Need-same-length-2 (enter-reads.Asked, enter-reads.Learnt, leaf-reads.Asked, leaf-reads.Learnt, node-below t, node.Post, close-reads.Asked, close-reads.Learnt, higher-reads.Asked, higher-reads.Learnt) (node-at t) node.Post
@@ -129,7 +136,10 @@ node-same-length-2 t c = search needs
 
 -- src/node.rt:93:1
 node-returns-3 : (t : ℕ) → node-lts.Need-returns-3 (enter-reads.Asked, enter-reads.Learnt, leaf-reads.Asked, leaf-reads.Learnt, node-below t, node.Post, close-reads.Asked, close-reads.Learnt, higher-reads.Asked, higher-reads.Learnt) (node-at t) node.Post
-node-returns-3 t c = search needs
+node-returns-3 t c =
+    (c .leaf .ensures .0 (c .before .before .before .before .before .before .before .before .before .before .before .before .before .before .args .nest) (omega arith), λ us P o h bs g ready.
+      let (a, r) = leaf-node ready (enter-is (c .before .before .e .given .1) (c .before .before .before .before .before .before .enter .ensures us P o h bs g ready)) in
+      judges-is (sym (c .leaf .ensures .1 a (r .0))) (r .1))
 
 -- src/node.rt:93:1
 node-same-length-3 : (t : ℕ) → node-lts.Need-same-length-3 (enter-reads.Asked, enter-reads.Learnt, leaf-reads.Asked, leaf-reads.Learnt, node-below t, node.Post, close-reads.Asked, close-reads.Learnt, higher-reads.Asked, higher-reads.Learnt) (node-at t) node.Post
@@ -137,7 +147,12 @@ node-same-length-3 t c = search needs
 
 -- src/node.rt:93:1
 node-returns-4 : (t : ℕ) → node-lts.Need-returns-4 (enter-reads.Asked, enter-reads.Learnt, leaf-reads.Asked, leaf-reads.Learnt, node-below t, node.Post, close-reads.Asked, close-reads.Learnt, higher-reads.Asked, higher-reads.Learnt) (node-at t) node.Post
-node-returns-4 t c = search needs
+node-returns-4 t c =
+    (tt, λ us P o h bs g ready.
+      let e = enter-is (c .before .before .before .before .before .before .before .before .e2 .given .1) (c .before .before .before .before .before .before .before .before .before .before .before .before .enter .ensures us P o h bs g ready) in
+      let p = e .told .2 in
+      let i = c .before .before .before .before .before .node .ensures .1 us (e .told .0) (p .parameters) (p .clauses) (p .bindings) (p .goal) (part-ready ready (c .before .before .before .before .before .before .before .before .before .before .before .before .enter .kept .1 .1 .1 .1 .1 .0) (c .before .before .before .before .before .before .before .before .before .before .before .before .before .before .if1 .left) p) in
+      one-misfit ready e (judges-is (c .before .one .given .1) i))
 
 -- src/node.rt:93:1
 node-same-length-4 : (t : ℕ) → node-lts.Need-same-length-4 (enter-reads.Asked, enter-reads.Learnt, leaf-reads.Asked, leaf-reads.Learnt, node-below t, node.Post, close-reads.Asked, close-reads.Learnt, higher-reads.Asked, higher-reads.Learnt) (node-at t) node.Post
@@ -145,7 +160,13 @@ node-same-length-4 t c = search needs
 
 -- src/node.rt:93:1
 node-returns-5 : (t : ℕ) → node-lts.Need-returns-5 (enter-reads.Asked, enter-reads.Learnt, leaf-reads.Asked, leaf-reads.Learnt, node-below t, node.Post, close-reads.Asked, close-reads.Learnt, higher-reads.Asked, higher-reads.Learnt) (node-at t) node.Post
-node-returns-5 t c = search needs
+node-returns-5 t c =
+    (c .close .ensures .0, λ us P o h bs g ready.
+      let e = enter-is (c .before .before .before .before .before .before .before .before .before .e2 .given .1) (c .before .before .before .before .before .before .before .before .before .before .before .before .before .enter .ensures us P o h bs g ready) in
+      let p = e .told .2 in
+      let i = c .before .before .before .before .before .before .node .ensures .1 us (e .told .0) (p .parameters) (p .clauses) (p .bindings) (p .goal) (part-ready ready (c .before .before .before .before .before .before .before .before .before .before .before .before .before .enter .kept .1 .1 .1 .1 .1 .0) (c .before .before .before .before .before .before .before .before .before .before .before .before .before .before .before .if1 .left) p) in
+      let (a, r) = one-fits ready e (judges-is (c .before .before .one2 .given .1) i) (bounded-is _ _ _ (c .before .before .one2 .given .1) (c .before .before .before .before .before .before .node .ensures .0)) (c .before .before .before .before .before .before .before .before .before .before .before .before .before .before .before .if1 .left) in
+      judges-is (sym (c .close .ensures .1 a (r .0) (r .1 .0))) (r .1 .1))
 
 -- src/node.rt:93:1
 node-same-length-5 : (t : ℕ) → node-lts.Need-same-length-5 (enter-reads.Asked, enter-reads.Learnt, leaf-reads.Asked, leaf-reads.Learnt, node-below t, node.Post, close-reads.Asked, close-reads.Learnt, higher-reads.Asked, higher-reads.Learnt) (node-at t) node.Post
@@ -153,7 +174,12 @@ node-same-length-5 t c = search needs
 
 -- src/node.rt:93:1
 node-returns-6 : (t : ℕ) → node-lts.Need-returns-6 (enter-reads.Asked, enter-reads.Learnt, leaf-reads.Asked, leaf-reads.Learnt, node-below t, node.Post, close-reads.Asked, close-reads.Learnt, higher-reads.Asked, higher-reads.Learnt) (node-at t) node.Post
-node-returns-6 t c = search needs
+node-returns-6 t c =
+    (tt, λ us P o h bs g ready.
+      let e = enter-is (c .before .before .before .before .before .before .before .before .e3 .given .1) (c .before .before .before .before .before .before .before .before .before .before .before .before .enter .ensures us P o h bs g ready) in
+      let p = e .told .4 in
+      let i = c .before .before .before .before .before .node2 .ensures .1 us (e .told .0) (p .parameters) (p .clauses) (p .bindings) (p .goal) (part-ready ready (c .before .before .before .before .before .before .before .before .before .before .before .before .enter .kept .1 .1 .1 .1 .1 .0) (c .before .before .before .before .before .before .before .before .before .before .before .before .before .before .if1 .left) p) in
+      two-first ready e (judges-is (c .before .one3 .given .1) i))
 
 -- src/node.rt:93:1
 node-same-length-6 : (t : ℕ) → node-lts.Need-same-length-6 (enter-reads.Asked, enter-reads.Learnt, leaf-reads.Asked, leaf-reads.Learnt, node-below t, node.Post, close-reads.Asked, close-reads.Learnt, higher-reads.Asked, higher-reads.Learnt) (node-at t) node.Post
@@ -161,15 +187,30 @@ node-same-length-6 t c = search needs
 
 -- src/node.rt:93:1
 node-returns-7 : (t : ℕ) → node-lts.Need-returns-7 (enter-reads.Asked, enter-reads.Learnt, leaf-reads.Asked, leaf-reads.Learnt, node-below t, node.Post, close-reads.Asked, close-reads.Learnt, higher-reads.Asked, higher-reads.Learnt) (node-at t) node.Post
-node-returns-7 t c = search needs
+node-returns-7 t c =
+    (tt, λ us P o h bs g ready.
+      let e = enter-is (c .before .before .before .before .before .before .before .before .before .before .before .before .before .before .before .e3 .given .1) (c .before .before .before .before .before .before .before .before .before .before .before .before .before .before .before .before .before .before .before .enter .ensures us P o h bs g ready) in
+      let p = e .told .4 in
+      let q = e .told .5 in
+      let i = judges-is (c .before .before .before .before .before .before .before .before .one4 .given .1) (c .before .before .before .before .before .before .before .before .before .before .before .before .node2 .ensures .1 us (e .told .0) (p .parameters) (p .clauses) (p .bindings) (p .goal) (part-ready ready (c .before .before .before .before .before .before .before .before .before .before .before .before .before .before .before .before .before .before .before .enter .kept .1 .1 .1 .1 .1 .0) (c .before .before .before .before .before .before .before .before .before .before .before .before .before .before .before .before .before .before .before .before .before .if1 .left) p)) in
+      let j = c .before .before .before .before .before .node3 .ensures .1 us (e .told .1) (q .parameters) (q .clauses) (q .bindings) (q .goal) (second-ready ready e i (c .before .before .before .before .before .before .before .before .before .before .before .before .node2 .kept .1 .1 .1 .1 .1 .0 ∙ c .before .before .before .before .before .before .before .before .before .before .before .before .before .before .before .before .before .before .before .enter .kept .1 .1 .1 .1 .1 .0) (c .before .before .before .before .before .before .before .before .before .before .before .before .before .before .before .before .before .before .before .before .before .if1 .left)) in
+      two-second ready e i (judges-is (c .before .two .given .1) j))
 
 -- src/node.rt:93:1
 node-same-length-7 : (t : ℕ) → node-lts.Need-same-length-7 (enter-reads.Asked, enter-reads.Learnt, leaf-reads.Asked, leaf-reads.Learnt, node-below t, node.Post, close-reads.Asked, close-reads.Learnt, higher-reads.Asked, higher-reads.Learnt) (node-at t) node.Post
-node-same-length-7 t c = search needs
+node-same-length-7 t c = c .before .before .before .before .before .before .before .node3 .kept .1 .1 .1 .1 .1 .0 ∙ (c .before .before .before .before .before .before .before .before .before .before .before .before .before .before .node2 .kept .1 .1 .1 .1 .1 .0 ∙ c .before .before .before .before .before .before .before .before .before .before .before .before .before .before .before .before .before .before .before .before .before .enter .kept .1 .1 .1 .1 .1 .0)
 
 -- src/node.rt:93:1
 node-returns-8 : (t : ℕ) → node-lts.Need-returns-8 (enter-reads.Asked, enter-reads.Learnt, leaf-reads.Asked, leaf-reads.Learnt, node-below t, node.Post, close-reads.Asked, close-reads.Learnt, higher-reads.Asked, higher-reads.Learnt) (node-at t) node.Post
-node-returns-8 t c = search needs
+node-returns-8 t c =
+    (c .close2 .ensures .0, λ us P o h bs g ready.
+      let e = enter-is (c .before .before .before .before .before .before .before .before .before .before .before .before .before .before .before .before .before .e3 .given .1) (c .before .before .before .before .before .before .before .before .before .before .before .before .before .before .before .before .before .before .before .before .before .enter .ensures us P o h bs g ready) in
+      let p = e .told .4 in
+      let q = e .told .5 in
+      let i = judges-is (c .before .before .before .before .before .before .before .before .before .before .one4 .given .1) (c .before .before .before .before .before .before .before .before .before .before .before .before .before .before .node2 .ensures .1 us (e .told .0) (p .parameters) (p .clauses) (p .bindings) (p .goal) (part-ready ready (c .before .before .before .before .before .before .before .before .before .before .before .before .before .before .before .before .before .before .before .before .before .enter .kept .1 .1 .1 .1 .1 .0) (c .before .before .before .before .before .before .before .before .before .before .before .before .before .before .before .before .before .before .before .before .before .before .before .if1 .left) p)) in
+      let j = judges-is (c .before .before .before .two2 .given .1) (c .before .before .before .before .before .before .before .node3 .ensures .1 us (e .told .1) (q .parameters) (q .clauses) (q .bindings) (q .goal) (second-ready ready e i (c .before .before .before .before .before .before .before .before .before .before .before .before .before .before .node2 .kept .1 .1 .1 .1 .1 .0 ∙ c .before .before .before .before .before .before .before .before .before .before .before .before .before .before .before .before .before .before .before .before .before .enter .kept .1 .1 .1 .1 .1 .0) (c .before .before .before .before .before .before .before .before .before .before .before .before .before .before .before .before .before .before .before .before .before .before .before .if1 .left))) in
+      let (a, r) = two-fit ready e i j (bounded-is _ _ _ (c .before .before .before .before .before .before .before .before .before .before .one4 .given .1) (c .before .before .before .before .before .before .before .before .before .before .before .before .before .before .node2 .ensures .0)) (bounded-is _ _ _ (c .before .before .before .two2 .given .1) (c .before .before .before .before .before .before .before .node3 .ensures .0)) (c .before .before .before .before .before .before .before .before .before .before .before .before .before .before .before .before .before .before .before .before .before .before .before .if1 .left) (c .before .higher .result) (c .before .higher .ensures) in
+      judges-is (sym (c .close2 .ensures .1 a (r .0) (r .1 .0))) (r .1 .1))
 
 pub +node-spec : {M : Type 1} → statement M
 +node-spec = close μ-node λ t. node-lts.spec (enter-reads.Asked, enter-reads.Learnt, leaf-reads.Asked, leaf-reads.Learnt, node-below t, node.Post, close-reads.Asked, close-reads.Learnt, higher-reads.Asked, higher-reads.Learnt)
