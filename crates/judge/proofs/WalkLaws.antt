@@ -5,9 +5,17 @@ use mathlib.Core.Path.{_≡_, refl, sym, _∙_, ap, ap₂, subst}
 use mathlib.Core.List.{List, [], _∷_}
 use lib.ListN.{length, getD}
 use Rattle.sexp.proofs.OntoLaws.{spell-some}
+use lib.Dec.{ltb}
+use Rattle.basics.specs.Choice.{choose}
 use Rattle.packet.specs.Written.{clauseSexp, termSexp}
-use Rattle.judge.specs.Shown.{bindingsIn, bindingOf, ruleWord, supposedWord, startWord, highWord, fileOf, sourceOf, stack}
-use Rattle.harrop.specs.Formula.{Term, Goal, Strip}
+use Rattle.room.specs.Layout.{words, levels, rulesWord, ruleWord, candidatesWord, candidateWord, highestWord, supposedWord, supposedAtMost, stack, Enough}
+use Rattle.room.specs.Spot.{sourceOf, spotFrom, supposedIn, nowhere}
+use Rattle.room.specs.Table.{RulesIn, CandidatesIn}
+use Rattle.room.proofs.FrameLaws.{frames-alike}
+use Rattle.room.proofs.FileLaws.{spot-alike}
+use Rattle.room.specs.declared.Spot.{Spot}
+use Rattle.sexp.specs.Sexp.{Sexp}
+use Rattle.harrop.specs.Formula.{Term, Goal, Clause, Strip}
 use Rattle.harrop.specs.Bindings.{Bindings}
 use Rattle.harrop.specs.Place.{AtHand, Hand, Plain, listed}
 use Rattle.harrop.proofs.ListLaws.{member-below}
@@ -16,7 +24,7 @@ use Rattle.sexp.specs.Sexp.{Stands, nesting}
 use Rattle.sexp.proofs.StandLaws.{stands-inside, stands-before}
 use Rattle.packet.specs.Written.{stripSexp, goalSexp}
 use Rattle.packet.specs.Offset.{width, offsetOf}
-use Rattle.judge.specs.Walk.{Live, Kept, Framed, ClauseIn, HandIn, CandidatesIn, Means, Ready, Part, Told, Enters, Judges, Bounded, outcome}
+use Rattle.judge.specs.Walk.{Files, Live, Kept, Framed, HandIn, Booked, Means, Ready, Part, Told, Enters, Judges, Bounded, outcome}
 use Rattle.judge.specs.declared.node.Where.{Where}
 use Rattle.judge.specs.declared.node.Entered.{Entered}
 use Rattle.judge.specs.declared.node.Entered.the-variants as E
@@ -58,54 +66,73 @@ kept-then a b c p q x y i l = y i (live-more p q l) ∙ x i l
 pub kept-less : {s s′ t t′ : ℕ} (a b : List ℕ) → s ≤ s′ → t ≤ t′ → Kept s′ t′ a b → Kept s t a b
 kept-less a b p q x i l = x i (live-more p q l)
 
--- a frame whose words are as they were has the bindings that it had
-pub bindings-kept : (room after : List ℕ) (base count : ℕ) → ((i : ℕ) → base ≤ i → i < base + count → getD after i 0 ≡ getD room i 0) → bindingsIn after base count ≡ bindingsIn room base count
-bindings-kept room after base zero h = refl
-bindings-kept room after base (suc n) h =
-    ap₂ {C = Bindings} _∷_ (ap bindingOf (h (base + n) (omega arith) (omega arith))) (bindings-kept room after base n (λ i p q. h i p (omega arith)))
-
-pub framed-kept : {room after : List ℕ} {base count top deep s t : ℕ} {bs : Bindings} → top ≤ t → Kept s t room after → Framed room base count top deep bs → Framed after base count top deep bs
-framed-kept {room} {after} {base} {count} l k f =
-    record { above = f .above; below = f .below; holds = bindings-kept room after base count (λ i p q. k i (Live.high (omega (arith, f .above)) (omega (arith, f .below)))) ∙ f .holds; shallow = f .shallow }
-
--- a supposed clause whose four words are as they were
-clause-kept : {rs gs room after : List ℕ} {top at s : ℕ} {d : AtHand Plain} → Kept s top room after → at + 4 < supposedWord s → ClauseIn rs gs room top at d → ClauseIn rs gs after top at d
-clause-kept {rs} {gs} {room} {after} {top} {at} {d = d} k l h =
+-- a formula whose words are as they were
+pub framed-kept : {f : Files} {room after : List ℕ} {x : Spot} {top s t : ℕ} {e : Sexp} {bs : Bindings} → top ≤ t → Kept s t room after → Framed f room x top e bs → Framed f after x top e bs
+framed-kept {room = room} {after = after} {x = x} l k h =
     record {
-      framed = rw (k (at + 2) (Live.low (omega arith)), k (at + 3) (Live.low (omega arith))) (framed-kept {t = top} (omega arith) k (h .framed));
-      stands = rw (k at (Live.low (omega arith)), k (at + 1) (Live.low (omega arith))) (h .stands);
+      stands = h .stands;
+      above = h .above;
+      below = h .below;
+      holds = frames-alike after room (x .base) (x .base) (x .count) (λ i p. k (x .base + i) (Live.high (omega (arith, h .above)) (omega (arith, h .below)))) ∙ h .holds;
+      shallow = h .shallow;
     }
 
-pub hand-kept : {rs gs room after : List ℕ} {rules supposed top : ℕ} {c : Hand Plain} → Kept supposed top room after → HandIn rs gs room rules supposed top c → HandIn rs gs after rules supposed top c
-hand-kept {rs} {gs} {room} {after} {rules} {supposed} {top} {c} k h =
+-- the spot of a supposed clause, where its four words are as they were
+supposed-kept : (room after : List ℕ) (s t j : ℕ) → j < s → Kept s t room after → supposedIn after j ≡ supposedIn room j
+unfolding supposedIn
+supposed-kept room after s t j l k =
+    ap (λ (x : Spot). choose (ltb j supposedAtMost) x nowhere)
+    (spot-alike (ap sourceOf (k (supposedWord j) (Live.low (omega arith)))) (k (supposedWord j + 1) (Live.low (omega arith))) (k (supposedWord j + 2) (Live.low (omega arith))) (k (supposedWord j + 3) (Live.low (omega arith))))
+
+pub hand-kept : {f : Files} {room after : List ℕ} {ds : List (Clause Plain)} {supposed top : ℕ} {c : Hand Plain} → Kept supposed top room after → HandIn f room ds supposed top c → HandIn f after ds supposed top c
+hand-kept {f} {room} {after} {ds} {supposed} {top} {c} k h =
     record {
       number = h .number;
-      few = h .few;
-      rule = λ i d p q. let x = h .rule i d p q in (x .0, subst (λ (z : ℕ). Stands rs z (clauseSexp (d .clause))) (sym (k (ruleWord i) (Live.low (omega (arith, h .few))))) (x .1), x .2);
+      rule = h .rule;
       suppose = λ j d q.
-      let b = member-below c (rules + j) d q in
-      clause-kept {s = supposed} k (omega (arith, h .number)) (h .suppose j d q);
+      let b = member-below c (length ds + j) d q in
+      let e = supposed-kept room after supposed top j (omega (arith, h .number)) k in
+      subst (λ (x : Spot). Framed f after x top (clauseSexp (d .clause)) (d .bindings)) (sym e) (framed-kept {t = top} (omega arith) k (h .suppose j d q));
     }
 
-pub candidates-kept : {ts room after : List ℕ} {us : List Term} {s t : ℕ} → Kept s t room after → CandidatesIn ts room us → CandidatesIn ts after us
-candidates-kept {ts} {room} {after} {us} k h =
+-- the tables of rules and candidates lie below the supposed clauses
+pub booked-kept : {f : Files} {room after : List ℕ} {ds : List (Clause Plain)} {us : List Term} {s t : ℕ} → Kept s t room after → Booked f room ds us → Booked f after ds us
+booked-kept {f} {room} {after} {ds} {us} k b =
     record {
-      few = h .few;
-      listed′ = λ i t q.
-      let b = member-below us i t q in
-      let x = h .listed′ i t q in
-      (subst (λ (z : ℕ). Stands ts z (termSexp t)) (sym (k (startWord i) (Live.low (omega (arith, h .few))))) (x .0), k (highWord i) (Live.low (omega (arith, h .few))) ∙ x .1, x .2);
+      rules =
+      record {
+        counted = k rulesWord (Live.low (omega arith)) ∙ b .rules .counted;
+        few = b .rules .few;
+        starts = λ i d q.
+        let l = member-below ds i d q in
+        subst (λ (n : ℕ). Stands (f .rules) n (clauseSexp d)) (sym (k (ruleWord i) (Live.low (omega (arith, b .rules .few))))) (b .rules .starts i d q);
+      };
+      shallow = b .shallow;
+      candidates =
+      record {
+        counted = k candidatesWord (Live.low (omega arith)) ∙ b .candidates .counted;
+        few = b .candidates .few;
+        starts = λ i t q.
+        let l = member-below us i t q in
+        subst (λ (n : ℕ). Stands (f .terms) n (termSexp t)) (sym (k (candidateWord i) (Live.low (omega (arith, b .candidates .few))))) (b .candidates .starts i t q);
+        highests = λ i t q.
+        let l = member-below us i t q in
+        k (highestWord i) (Live.low (omega (arith, b .candidates .few))) ∙ b .candidates .highests i t q;
+        closed = b .candidates .closed;
+        shallow = b .candidates .shallow;
+      };
+      rules-small = b .rules-small;
+      goal-small = b .goal-small;
     }
 
 -- a place whose words are as they were means what it meant
-pub means-kept : {rs gs ts room after : List ℕ} {rules : ℕ} {w : Where} {us : List Term} {o : List Plain} {c : Hand Plain} {bs : Bindings} {g : Goal Plain} → Kept (w .supposed) (w .top) room after → Means rs gs ts room rules w us o c bs g → Means rs gs ts after rules w us o c bs g
+pub means-kept : {f : Files} {room after : List ℕ} {ds : List (Clause Plain)} {us : List Term} {w : Where} {o : List Plain} {c : Hand Plain} {bs : Bindings} {g : Goal Plain} → Kept (w .supposed) (w .top) room after → Means f room ds us w o c bs g → Means f after ds us w o c bs g
 means-kept {w = w} k m =
     record {
-      stands = m .stands;
+      booked = booked-kept k (m .booked);
       framed = framed-kept {t = w .top} (omega arith) k (m .framed);
       openly = m .openly;
       hand = hand-kept k (m .hand);
-      candidates = candidates-kept k (m .candidates);
     }
 
 -- what a node says above its part, in offsets
@@ -149,8 +176,8 @@ both-fit at start mid P X Y (Judged.fits h₁ n₁) (Judged.misfit pos) next h n
 both-fit at start mid P X Y (Judged.misfit pos) j next h n next′ h′ n′ e d f = let z : _≡_ {A = ℕ} 0 1 = cc in absurd (omega arith)
 
 -- a node's own judgement, where the answer is known
-pub enter-is : {rs gs ts ss room after : List ℕ} {rules : ℕ} {us : List Term} {w : Where} {at : ℕ} {P : Strip} {j : Judged} {r e : Entered} → r ≡ e → Enters rs gs ts ss room after rules us w at P j r → Enters rs gs ts ss room after rules us w at P j e
-enter-is {rs} {gs} {ts} {ss} {room} {after} {rules} {us} {w} {at} {P} {j} q x = subst (λ (y : Entered). Enters rs gs ts ss room after rules us w at P j y) q x
+pub enter-is : {f : Files} {ss room after : List ℕ} {ds : List (Clause Plain)} {us : List Term} {w : Where} {at : ℕ} {P : Strip} {j : Judged} {r e : Entered} → r ≡ e → Enters f ss room after ds us w at P j r → Enters f ss room after ds us w at P j e
+enter-is {f} {ss} {room} {after} {ds} {us} {w} {at} {P} {j} q x = subst (λ (y : Entered). Enters f ss room after ds us w at P j y) q x
 
 pub judges-is : {room after : List ℕ} {w : Where} {at : ℕ} {P : Strip} {j : Judged} {r e : Outcome} → r ≡ e → Judges room after w at P j r → Judges room after w at P j e
 judges-is {room} {after} {w} {at} {P} {j} q x = record { kept = x .kept; answer = sym q ∙ x .answer }
@@ -159,15 +186,15 @@ pub bounded-is : (size at nest : ℕ) {r e : Outcome} → r ≡ e → Bounded si
 bounded-is size at nest q x = subst (λ (y : Outcome). Bounded size at nest y) q x
 
 -- what the walk said of a part
-abbrev pub Inner : {rs gs ts ss room : List ℕ} {rules : ℕ} {us : List Term} {w w′ : Where} {at start i : ℕ} {P part : Strip} {k : Judged} → Part rs gs ts ss room rules us w w′ at start P part i k → List ℕ → List ℕ → ℕ → Outcome → Type 0
+abbrev pub Inner : {f : Files} {ss room : List ℕ} {ds : List (Clause Plain)} {us : List Term} {w w′ : Where} {at start i : ℕ} {P part : Strip} {k : Judged} → Part f ss room ds us w w′ at start P part i k → List ℕ → List ℕ → ℕ → Outcome → Type 0
 Inner {us = us} {w′ = w′} {part = part} p before last start r = Judges before last w′ start part (check (listed us) part (p .parameters) (p .clauses) (p .bindings) (p .goal)) r
 
-module _ {rs gs ts ss : List ℕ} {rules candidates : ℕ} {us : List Term} where
-  module _ {room after : List ℕ} {w : Where} {at nest : ℕ} {P : Strip} {o : List Plain} {c : Hand Plain} {bs : Bindings} {g : Goal Plain} (ready : Ready rs gs ts ss room rules candidates w at nest us P o c bs g) where
-    pub misfit-node : Enters rs gs ts ss room after rules us w at P (check (listed us) P o c bs g) E.Misfit → Judges room after w at P (check (listed us) P o c bs g) (O.Misfit at)
+module _ {f : Files} {ss : List ℕ} {ds : List (Clause Plain)} {us : List Term} where
+  module _ {room after : List ℕ} {w : Where} {at nest : ℕ} {P : Strip} {o : List Plain} {c : Hand Plain} {bs : Bindings} {g : Goal Plain} (ready : Ready f ss room ds us w at nest P o c bs g) where
+    pub misfit-node : Enters f ss room after ds us w at P (check (listed us) P o c bs g) E.Misfit → Judges room after w at P (check (listed us) P o c bs g) (O.Misfit at)
     misfit-node n = record { kept = n .kept; answer = ap O.Misfit (omega (arith, offset-root P)) ∙ ap (outcome at P) (sym (n .told)) }
 
-    pub leaf-node : {next : ℕ} → Enters rs gs ts ss room after rules us w at P (check (listed us) P o c bs g) (E.Leaf next) → (next ≤ length ss) × ((at < next) × Judges room after w at P (check (listed us) P o c bs g) (O.Fits next 1 1))
+    pub leaf-node : {next : ℕ} → Enters f ss room after ds us w at P (check (listed us) P o c bs g) (E.Leaf next) → (next ≤ length ss) × ((at < next) × Judges room after w at P (check (listed us) P o c bs g) (O.Fits next 1 1))
     leaf-node {next} n =
         let (t, e) = n .told in
         let i = stands-inside (ready .stands) in
@@ -175,18 +202,22 @@ module _ {rs gs ts ss : List ℕ} {rules candidates : ℕ} {us : List Term} wher
         (omega arith, (omega arith, record { kept = n .kept; answer = ap (λ (m : ℕ). O.Fits m 1 1) e ∙ ap (outcome at P) (sym t) }))
 
     -- a part of a node that fits is ready with one less of nesting
-    pub part-ready : {w′ : Where} {start i : ℕ} {part : Strip} {j : Judged} → length after ≡ length room → (nest ≡ 0 → ⊥) → (p : Part rs gs ts ss after rules us w w′ at start P part i j) → Ready rs gs ts ss after rules candidates w′ start (nest - 1) us part (p .parameters) (p .clauses) (p .bindings) (p .goal)
+    pub part-ready : {w′ : Where} {start i : ℕ} {part : Strip} {j : Judged} → length after ≡ length room → (nest ≡ 0 → ⊥) → (p : Part f ss after ds us w w′ at start P part i j) → Ready f ss after ds us w′ start (nest - 1) part (p .parameters) (p .clauses) (p .bindings) (p .goal)
     part-ready l z p =
         record {
           place = p .place;
-          number = ready .number;
           stands = p .stands;
           nests = omega (arith, p .shallower, ready .nests);
-          supposing = omega (arith, p .supposes-one, ready .supposing);
-          roomy = omega (arith, p .room-left, ready .roomy);
+          enough =
+          record {
+            bindings = omega (arith, p .room-left, ready .enough .bindings);
+            supposed = omega (arith, p .supposes-one, ready .enough .supposed);
+            opened = omega (arith, p .opens-one, ready .enough .opened);
+          };
+          long = omega (arith, ready .long);
         }
 
-    pub one-misfit : {last : List ℕ} {w′ : Where} {start m : ℕ} (e : Enters rs gs ts ss room after rules us w at P (check (listed us) P o c bs g) (E.One start w′)) → Inner (e .told .2) after last start (O.Misfit m) → Judges room last w at P (check (listed us) P o c bs g) (O.Misfit m)
+    pub one-misfit : {last : List ℕ} {w′ : Where} {start m : ℕ} (e : Enters f ss room after ds us w at P (check (listed us) P o c bs g) (E.One start w′)) → Inner (e .told .2) after last start (O.Misfit m) → Judges room last w at P (check (listed us) P o c bs g) (O.Misfit m)
     one-misfit {last} {w′} {start} {m} e d =
         let (part, k, p, j, whole) = e .told in
         record {
@@ -194,7 +225,7 @@ module _ {rs gs ts ss : List ℕ} {rules candidates : ℕ} {us : List Term} wher
           answer = above-misfit at start P part k m (d .answer ∙ ap (outcome start part) (sym (p .says))) (p .offsets) ∙ ap (outcome at P) (sym j);
         }
 
-    pub one-fits : {last : List ℕ} {w′ : Where} {start next h n : ℕ} (e : Enters rs gs ts ss room after rules us w at P (check (listed us) P o c bs g) (E.One start w′)) → Inner (e .told .2) after last start (O.Fits next h n) → Bounded (length ss) start (nest - 1) (O.Fits next h n) → (nest ≡ 0 → ⊥) → (next < length ss) × ((at + n ≤ next) × ((h < nest) × Judges room last w at P (check (listed us) P o c bs g) (O.Fits (next + 1) (h + 1) (n + 1))))
+    pub one-fits : {last : List ℕ} {w′ : Where} {start next h n : ℕ} (e : Enters f ss room after ds us w at P (check (listed us) P o c bs g) (E.One start w′)) → Inner (e .told .2) after last start (O.Fits next h n) → Bounded (length ss) start (nest - 1) (O.Fits next h n) → (nest ≡ 0 → ⊥) → (next < length ss) × ((at + n ≤ next) × ((h < nest) × Judges room last w at P (check (listed us) P o c bs g) (O.Fits (next + 1) (h + 1) (n + 1))))
     one-fits {last} {w′} {start} {next} {h} {n} e d b z =
         let (part, k, p, j, whole) = e .told in
         let a = d .answer ∙ ap (outcome start part) (sym (p .says)) in
@@ -214,7 +245,7 @@ module _ {rs gs ts ss : List ℕ} {rules candidates : ℕ} {us : List Term} wher
           ),
         )
 
-    pub two-first : {last : List ℕ} {w′ w″ : Where} {start m : ℕ} (e : Enters rs gs ts ss room after rules us w at P (check (listed us) P o c bs g) (E.Two start w′ w″)) → Inner (e .told .4) after last start (O.Misfit m) → Judges room last w at P (check (listed us) P o c bs g) (O.Misfit m)
+    pub two-first : {last : List ℕ} {w′ w″ : Where} {start m : ℕ} (e : Enters f ss room after ds us w at P (check (listed us) P o c bs g) (E.Two start w′ w″)) → Inner (e .told .4) after last start (O.Misfit m) → Judges room last w at P (check (listed us) P o c bs g) (O.Misfit m)
     two-first {last} {w′} {w″} {start} {m} e d =
         let (X, Y, k, l, p, q, s, t, j, whole) = e .told in
         record {
@@ -223,20 +254,24 @@ module _ {rs gs ts ss : List ℕ} {rules candidates : ℕ} {us : List Term} wher
         }
 
     -- the second part is ready when the first is done
-    pub second-ready : {last : List ℕ} {w′ w″ : Where} {start mid h n : ℕ} (e : Enters rs gs ts ss room after rules us w at P (check (listed us) P o c bs g) (E.Two start w′ w″)) → Inner (e .told .4) after last start (O.Fits mid h n) → length last ≡ length room → (nest ≡ 0 → ⊥) → Ready rs gs ts ss last rules candidates w″ mid (nest - 1) us (e .told .1) (e .told .5 .parameters) (e .told .5 .clauses) (e .told .5 .bindings) (e .told .5 .goal)
+    pub second-ready : {last : List ℕ} {w′ w″ : Where} {start mid h n : ℕ} (e : Enters f ss room after ds us w at P (check (listed us) P o c bs g) (E.Two start w′ w″)) → Inner (e .told .4) after last start (O.Fits mid h n) → length last ≡ length room → (nest ≡ 0 → ⊥) → Ready f ss last ds us w″ mid (nest - 1) (e .told .1) (e .told .5 .parameters) (e .told .5 .clauses) (e .told .5 .bindings) (e .told .5 .goal)
     second-ready {last} {w′} {w″} {start} {mid} {h} {n} e d ll z =
         let (X, Y, k, l, p, q, s, t, j, whole) = e .told in
         let a = fits-at start X k mid h n (d .answer ∙ ap (outcome start X) (sym (p .says))) in
         record {
           place = means-kept (kept-less after last s t (d .kept)) (q .place);
-          number = ready .number;
           stands = subst (λ (i : ℕ). Stands ss i (stripSexp Y)) (sym a) (q .stands);
           nests = omega (arith, q .shallower, ready .nests);
-          supposing = omega (arith, q .supposes-one, ready .supposing);
-          roomy = omega (arith, q .room-left, ready .roomy);
+          enough =
+          record {
+            bindings = omega (arith, q .room-left, ready .enough .bindings);
+            supposed = omega (arith, q .supposes-one, ready .enough .supposed);
+            opened = omega (arith, q .opens-one, ready .enough .opened);
+          };
+          long = omega (arith, ready .long);
         }
 
-    pub two-second : {last final : List ℕ} {w′ w″ : Where} {start mid h n m : ℕ} (e : Enters rs gs ts ss room after rules us w at P (check (listed us) P o c bs g) (E.Two start w′ w″)) → Inner (e .told .4) after last start (O.Fits mid h n) → Inner (e .told .5) last final mid (O.Misfit m) → Judges room final w at P (check (listed us) P o c bs g) (O.Misfit m)
+    pub two-second : {last final : List ℕ} {w′ w″ : Where} {start mid h n m : ℕ} (e : Enters f ss room after ds us w at P (check (listed us) P o c bs g) (E.Two start w′ w″)) → Inner (e .told .4) after last start (O.Fits mid h n) → Inner (e .told .5) last final mid (O.Misfit m) → Judges room final w at P (check (listed us) P o c bs g) (O.Misfit m)
     two-second {last} {final} {w′} {w″} {start} {mid} {h} {n} {m} e d f =
         let (X, Y, k, l, p, q, s, t, j, whole) = e .told in
         let x = d .answer ∙ ap (outcome start X) (sym (p .says)) in
@@ -246,7 +281,7 @@ module _ {rs gs ts ss : List ℕ} {rules candidates : ℕ} {us : List Term} wher
           answer = both-second at start mid P X Y k l mid h n m x (f .answer ∙ ap (outcome mid Y) (sym (q .says))) (λ pos. q .offsets pos ∙ ap (λ (i : ℕ). i + offsetOf Y pos) (sym a)) ∙ ap (outcome at P) (sym j);
         }
 
-    pub two-fit : {last final : List ℕ} {w′ w″ : Where} {start mid h n next h′ n′ : ℕ} (e : Enters rs gs ts ss room after rules us w at P (check (listed us) P o c bs g) (E.Two start w′ w″)) → Inner (e .told .4) after last start (O.Fits mid h n) → Inner (e .told .5) last final mid (O.Fits next h′ n′) → Bounded (length ss) start (nest - 1) (O.Fits mid h n) → Bounded (length ss) mid (nest - 1) (O.Fits next h′ n′) → (nest ≡ 0 → ⊥) → (m : ℕ) → m ≡ max h h′ → (next < length ss) × ((at + (n + n′) ≤ next) × ((m < nest) × Judges room final w at P (check (listed us) P o c bs g) (O.Fits (next + 1) (m + 1) (n + n′ + 1))))
+    pub two-fit : {last final : List ℕ} {w′ w″ : Where} {start mid h n next h′ n′ : ℕ} (e : Enters f ss room after ds us w at P (check (listed us) P o c bs g) (E.Two start w′ w″)) → Inner (e .told .4) after last start (O.Fits mid h n) → Inner (e .told .5) last final mid (O.Fits next h′ n′) → Bounded (length ss) start (nest - 1) (O.Fits mid h n) → Bounded (length ss) mid (nest - 1) (O.Fits next h′ n′) → (nest ≡ 0 → ⊥) → (m : ℕ) → m ≡ max h h′ → (next < length ss) × ((at + (n + n′) ≤ next) × ((m < nest) × Judges room final w at P (check (listed us) P o c bs g) (O.Fits (next + 1) (m + 1) (n + n′ + 1))))
     two-fit {last} {final} {w′} {w″} {start} {mid} {h} {n} {next} {h′} {n′} e d f b b′ z m u =
         let (X, Y, k, l, p, q, s, t, j, whole) = e .told in
         let x = d .answer ∙ ap (outcome start X) (sym (p .says)) in

@@ -1,38 +1,21 @@
-// The walk down the strip.
+// The walk down the strip: each node judged at its own place, then its parts at theirs (document 01, "When a strip fits").
+use room::Spot;
 ghost use mathlib.Core.Path.{_≡_};
 ghost use mathlib.Core.List.{List};
 ghost use Prim.Native.Nat.{ℕ, _+_, _≤_, _<_, max};
 ghost use lib.ListN.{length};
-ghost use Rattle.harrop.specs.Formula.{Term, Goal, Strip};
-ghost use Rattle.harrop.specs.Bindings.{Bindings};
-ghost use Rattle.harrop.specs.Place.{Hand, Plain, listed};
-ghost use Rattle.harrop.specs.Check.{check};
-ghost use Rattle.judge.specs.Walk.{Ready, Enters, Judges, Bounded};
+ghost use Rattle.judge.specs.Walk.{Entering, Judging, Bounded, filesOf};
 ghost use Rattle.judge.specs.declared.node.Outcome.{Outcome};
 
-pub enum Source {
-    Rules,
-    Goal,
-    Terms,
-}
-
-// A place: where its goal stands, the frame of its bindings, how many clauses are supposed, how many parameters are open, and where the room is free.
+// A place: the spot of its goal, how many clauses are supposed, how many parameters are open, and where the room is free.
 pub struct Where {
-    source: Source,
-    at: usize,
-    base: usize,
-    count: usize,
+    goal: Spot,
     supposed: usize,
     parameters: usize,
     top: usize,
 }
 
-// How many rules and candidates the packet has.
-pub struct Counts {
-    rules: usize,
-    candidates: usize,
-}
-
+// What a node says at its own place: it does not fit; it fits and ends before an offset; it fits, and its part or parts begin at an offset, at these places.
 pub enum Entered {
     Misfit,
     Leaf(usize),
@@ -52,11 +35,10 @@ fn enter<'a>(
     strip: &[u8],
     at: usize,
     room: &mut [u32],
-    n: Counts,
     w: Where,
     nest: usize,
 ) -> Entered
-    ensures { λ r. ⌜ ((us : List Term) (P : Strip) (o : List Plain) (c : Hand Plain) (bs : Bindings) (g : Goal Plain) → Ready (now (rules .entry)) (now (goal .entry)) (now (terms .entry)) (now (strip .entry)) (now (room .entry)) (n .rules) (n .candidates) w at nest us P o c bs g → Enters (now (rules .entry)) (now (goal .entry)) (now (terms .entry)) (now (strip .entry)) (now (room .entry)) (now (room .exit)) (n .rules) us w at P (check (listed us) P o c bs g) r) ⌝ }
+    ensures { λ r. ⌜ Entering (filesOf (now (rules .entry)) (now (goal .entry)) (now (terms .entry))) (now (strip .entry)) (now (room .entry)) (now (room .exit)) at w nest r ⌝ }
 {
     if at < 3 {
         return Entered::Two(at, w, w);
@@ -97,33 +79,32 @@ fn node<'a>(
     strip: &[u8],
     at: usize,
     room: &mut [u32],
-    n: Counts,
     w: Where,
     nest: usize,
 ) -> Outcome
     ensures sure { λ r. ⌜ Bounded (length (now (strip .entry))) at nest r ⌝ }
-    ensures judged { λ r. ⌜ ((us : List Term) (P : Strip) (o : List Plain) (c : Hand Plain) (bs : Bindings) (g : Goal Plain) → Ready (now (rules .entry)) (now (goal .entry)) (now (terms .entry)) (now (strip .entry)) (now (room .entry)) (n .rules) (n .candidates) w at nest us P o c bs g → Judges (now (room .entry)) (now (room .exit)) w at P (check (listed us) P o c bs g) r) ⌝ }
+    ensures judged { λ r. ⌜ Judging (filesOf (now (rules .entry)) (now (goal .entry)) (now (terms .entry))) (now (strip .entry)) (now (room .entry)) (now (room .exit)) at w nest r ⌝ }
 {
     if nest == 0 {
         return Outcome::Misfit(at);
     }
-    let e = enter(rules, goal, terms, strip, at, room, n, w, nest);
+    let e = enter(rules, goal, terms, strip, at, room, w, nest);
     match e {
         Entered::Misfit => Outcome::Misfit(at),
         Entered::Leaf(next) => leaf(strip.len(), at, next),
         Entered::One(start, part) => {
-            let one = node(rules, goal, terms, strip, start, room, n, part, nest - 1);
+            let one = node(rules, goal, terms, strip, start, room, part, nest - 1);
             match one {
                 Outcome::Misfit(o) => Outcome::Misfit(o),
                 Outcome::Fits(next, h, m) => close(strip.len(), at, next, h, m, nest),
             }
         }
         Entered::Two(start, first, second) => {
-            let one = node(rules, goal, terms, strip, start, room, n, first, nest - 1);
+            let one = node(rules, goal, terms, strip, start, room, first, nest - 1);
             match one {
                 Outcome::Misfit(o) => Outcome::Misfit(o),
                 Outcome::Fits(mid, h, m) => {
-                    let two = node(rules, goal, terms, strip, mid, room, n, second, nest - 1);
+                    let two = node(rules, goal, terms, strip, mid, room, second, nest - 1);
                     match two {
                         Outcome::Misfit(o) => Outcome::Misfit(o),
                         Outcome::Fits(next, i, k) => {

@@ -17,7 +17,7 @@ use Rattle.judge.proofs.node.+node.{statement}
 use Rattle.judge.proofs.node.+node.Tie.{close}
 
 abbrev μ-node : Measures 3 node-kinds.ps ℕ
-μ-node κs a = a .1 .1 .1 .1 .1 .1 .1 .1 .0
+μ-node κs a = a .1 .1 .1 .1 .1 .1 .1 .0
 
 abbrev node-at : ℕ → In 3 node-kinds.ps
 node-at t = and 3 node-kinds.ps (is 3 node-kinds.ps μ-node t) node.Pre
@@ -27,7 +27,7 @@ node-below t = and 3 node-kinds.ps (falls 3 node-kinds.ps _<_ μ-node t) node.Pr
 
 -- src/node.rt:108:9
 node-returns : (t : ℕ) → node-lts.Need-returns (enter-reads.Asked, enter-reads.Learnt, leaf-reads.Asked, leaf-reads.Learnt, node-below t, node.Post, close-reads.Asked, close-reads.Learnt, higher-reads.Asked, higher-reads.Learnt) (node-at t) node.Post
-node-returns t c = (tt, λ us P o h bs g ready. absurd (omega (arith, strip-nests P, ready .nests, c .if1 .taken)))
+node-returns t c = (tt, λ ds us P o h bs g ready. absurd (omega (arith, strip-nests P, ready .nests, c .if1 .taken)))
 
 -- src/node.rt:110:9
 node-enter-requires : (t : ℕ) → node-lts.Need-enter-requires (enter-reads.Asked, enter-reads.Learnt, leaf-reads.Asked, leaf-reads.Learnt, node-below t, node.Post, close-reads.Asked, close-reads.Learnt, higher-reads.Asked, higher-reads.Learnt) (node-at t) node.Post
@@ -128,7 +128,7 @@ node-same-length t c = search needs
 node-returns-2 : (t : ℕ) → node-lts.Need-returns-2 (enter-reads.Asked, enter-reads.Learnt, leaf-reads.Asked, leaf-reads.Learnt, node-below t, node.Post, close-reads.Asked, close-reads.Learnt, higher-reads.Asked, higher-reads.Learnt) (node-at t) node.Post
 node-returns-2 t c =
     let x = c .before .before .before .before .before .before .before .before .before .before .before .before .args in
-    (tt, λ us P o h bs g ready. misfit-node ready (enter-is (c .enum-told .given .1) (c .before .before .before .before .enter .ensures us P o h bs g ready)))
+    (tt, λ ds us P o h bs g ready. misfit-node ready (enter-is (c .enum-told .given .1) (c .before .before .before .before .enter .ensures ds us P o h bs g ready)))
 
 -- src/node.rt:93:1
 node-same-length-2 : (t : ℕ) → node-lts.Need-same-length-2 (enter-reads.Asked, enter-reads.Learnt, leaf-reads.Asked, leaf-reads.Learnt, node-below t, node.Post, close-reads.Asked, close-reads.Learnt, higher-reads.Asked, higher-reads.Learnt) (node-at t) node.Post
@@ -137,8 +137,8 @@ node-same-length-2 t c = search needs
 -- src/node.rt:93:1
 node-returns-3 : (t : ℕ) → node-lts.Need-returns-3 (enter-reads.Asked, enter-reads.Learnt, leaf-reads.Asked, leaf-reads.Learnt, node-below t, node.Post, close-reads.Asked, close-reads.Learnt, higher-reads.Asked, higher-reads.Learnt) (node-at t) node.Post
 node-returns-3 t c =
-    (c .leaf .ensures .0 (c .before .before .before .before .before .before .before .before .before .before .before .before .before .before .args .nest) (omega arith), λ us P o h bs g ready.
-      let (a, r) = leaf-node ready (enter-is (c .before .before .e .given .1) (c .before .before .before .before .before .before .enter .ensures us P o h bs g ready)) in
+    (c .leaf .ensures .0 (c .before .before .before .before .before .before .before .before .before .before .before .before .before .before .args .nest) (omega arith), λ ds us P o h bs g ready.
+      let (a, r) = leaf-node ready (enter-is (c .before .before .e .given .1) (c .before .before .before .before .before .before .enter .ensures ds us P o h bs g ready)) in
       judges-is (sym (c .leaf .ensures .1 a (r .0))) (r .1))
 
 -- src/node.rt:93:1
@@ -148,10 +148,10 @@ node-same-length-3 t c = search needs
 -- src/node.rt:93:1
 node-returns-4 : (t : ℕ) → node-lts.Need-returns-4 (enter-reads.Asked, enter-reads.Learnt, leaf-reads.Asked, leaf-reads.Learnt, node-below t, node.Post, close-reads.Asked, close-reads.Learnt, higher-reads.Asked, higher-reads.Learnt) (node-at t) node.Post
 node-returns-4 t c =
-    (tt, λ us P o h bs g ready.
-      let e = enter-is (c .before .before .before .before .before .before .before .before .e2 .given .1) (c .before .before .before .before .before .before .before .before .before .before .before .before .enter .ensures us P o h bs g ready) in
+    (tt, λ ds us P o h bs g ready.
+      let e = enter-is (c .before .before .before .before .before .before .before .before .e2 .given .1) (c .before .before .before .before .before .before .before .before .before .before .before .before .enter .ensures ds us P o h bs g ready) in
       let p = e .told .2 in
-      let i = c .before .before .before .before .before .node .ensures .1 us (e .told .0) (p .parameters) (p .clauses) (p .bindings) (p .goal) (part-ready ready (c .before .before .before .before .before .before .before .before .before .before .before .before .enter .kept .1 .1 .1 .1 .1 .0) (c .before .before .before .before .before .before .before .before .before .before .before .before .before .before .if1 .left) p) in
+      let i = c .before .before .before .before .before .node .ensures .1 ds us (e .told .0) (p .parameters) (p .clauses) (p .bindings) (p .goal) (part-ready ready (c .before .before .before .before .before .before .before .before .before .before .before .before .enter .kept .1 .1 .1 .1 .1 .0) (c .before .before .before .before .before .before .before .before .before .before .before .before .before .before .if1 .left) p) in
       one-misfit ready e (judges-is (c .before .one .given .1) i))
 
 -- src/node.rt:93:1
@@ -161,10 +161,10 @@ node-same-length-4 t c = search needs
 -- src/node.rt:93:1
 node-returns-5 : (t : ℕ) → node-lts.Need-returns-5 (enter-reads.Asked, enter-reads.Learnt, leaf-reads.Asked, leaf-reads.Learnt, node-below t, node.Post, close-reads.Asked, close-reads.Learnt, higher-reads.Asked, higher-reads.Learnt) (node-at t) node.Post
 node-returns-5 t c =
-    (c .close .ensures .0, λ us P o h bs g ready.
-      let e = enter-is (c .before .before .before .before .before .before .before .before .before .e2 .given .1) (c .before .before .before .before .before .before .before .before .before .before .before .before .before .enter .ensures us P o h bs g ready) in
+    (c .close .ensures .0, λ ds us P o h bs g ready.
+      let e = enter-is (c .before .before .before .before .before .before .before .before .before .e2 .given .1) (c .before .before .before .before .before .before .before .before .before .before .before .before .before .enter .ensures ds us P o h bs g ready) in
       let p = e .told .2 in
-      let i = c .before .before .before .before .before .before .node .ensures .1 us (e .told .0) (p .parameters) (p .clauses) (p .bindings) (p .goal) (part-ready ready (c .before .before .before .before .before .before .before .before .before .before .before .before .before .enter .kept .1 .1 .1 .1 .1 .0) (c .before .before .before .before .before .before .before .before .before .before .before .before .before .before .before .if1 .left) p) in
+      let i = c .before .before .before .before .before .before .node .ensures .1 ds us (e .told .0) (p .parameters) (p .clauses) (p .bindings) (p .goal) (part-ready ready (c .before .before .before .before .before .before .before .before .before .before .before .before .before .enter .kept .1 .1 .1 .1 .1 .0) (c .before .before .before .before .before .before .before .before .before .before .before .before .before .before .before .if1 .left) p) in
       let (a, r) = one-fits ready e (judges-is (c .before .before .one2 .given .1) i) (bounded-is _ _ _ (c .before .before .one2 .given .1) (c .before .before .before .before .before .before .node .ensures .0)) (c .before .before .before .before .before .before .before .before .before .before .before .before .before .before .before .if1 .left) in
       judges-is (sym (c .close .ensures .1 a (r .0) (r .1 .0))) (r .1 .1))
 
@@ -175,10 +175,10 @@ node-same-length-5 t c = search needs
 -- src/node.rt:93:1
 node-returns-6 : (t : ℕ) → node-lts.Need-returns-6 (enter-reads.Asked, enter-reads.Learnt, leaf-reads.Asked, leaf-reads.Learnt, node-below t, node.Post, close-reads.Asked, close-reads.Learnt, higher-reads.Asked, higher-reads.Learnt) (node-at t) node.Post
 node-returns-6 t c =
-    (tt, λ us P o h bs g ready.
-      let e = enter-is (c .before .before .before .before .before .before .before .before .e3 .given .1) (c .before .before .before .before .before .before .before .before .before .before .before .before .enter .ensures us P o h bs g ready) in
+    (tt, λ ds us P o h bs g ready.
+      let e = enter-is (c .before .before .before .before .before .before .before .before .e3 .given .1) (c .before .before .before .before .before .before .before .before .before .before .before .before .enter .ensures ds us P o h bs g ready) in
       let p = e .told .4 in
-      let i = c .before .before .before .before .before .node2 .ensures .1 us (e .told .0) (p .parameters) (p .clauses) (p .bindings) (p .goal) (part-ready ready (c .before .before .before .before .before .before .before .before .before .before .before .before .enter .kept .1 .1 .1 .1 .1 .0) (c .before .before .before .before .before .before .before .before .before .before .before .before .before .before .if1 .left) p) in
+      let i = c .before .before .before .before .before .node2 .ensures .1 ds us (e .told .0) (p .parameters) (p .clauses) (p .bindings) (p .goal) (part-ready ready (c .before .before .before .before .before .before .before .before .before .before .before .before .enter .kept .1 .1 .1 .1 .1 .0) (c .before .before .before .before .before .before .before .before .before .before .before .before .before .before .if1 .left) p) in
       two-first ready e (judges-is (c .before .one3 .given .1) i))
 
 -- src/node.rt:93:1
@@ -188,12 +188,12 @@ node-same-length-6 t c = search needs
 -- src/node.rt:93:1
 node-returns-7 : (t : ℕ) → node-lts.Need-returns-7 (enter-reads.Asked, enter-reads.Learnt, leaf-reads.Asked, leaf-reads.Learnt, node-below t, node.Post, close-reads.Asked, close-reads.Learnt, higher-reads.Asked, higher-reads.Learnt) (node-at t) node.Post
 node-returns-7 t c =
-    (tt, λ us P o h bs g ready.
-      let e = enter-is (c .before .before .before .before .before .before .before .before .before .before .before .before .before .before .before .e3 .given .1) (c .before .before .before .before .before .before .before .before .before .before .before .before .before .before .before .before .before .before .before .enter .ensures us P o h bs g ready) in
+    (tt, λ ds us P o h bs g ready.
+      let e = enter-is (c .before .before .before .before .before .before .before .before .before .before .before .before .before .before .before .e3 .given .1) (c .before .before .before .before .before .before .before .before .before .before .before .before .before .before .before .before .before .before .before .enter .ensures ds us P o h bs g ready) in
       let p = e .told .4 in
       let q = e .told .5 in
-      let i = judges-is (c .before .before .before .before .before .before .before .before .one4 .given .1) (c .before .before .before .before .before .before .before .before .before .before .before .before .node2 .ensures .1 us (e .told .0) (p .parameters) (p .clauses) (p .bindings) (p .goal) (part-ready ready (c .before .before .before .before .before .before .before .before .before .before .before .before .before .before .before .before .before .before .before .enter .kept .1 .1 .1 .1 .1 .0) (c .before .before .before .before .before .before .before .before .before .before .before .before .before .before .before .before .before .before .before .before .before .if1 .left) p)) in
-      let j = c .before .before .before .before .before .node3 .ensures .1 us (e .told .1) (q .parameters) (q .clauses) (q .bindings) (q .goal) (second-ready ready e i (c .before .before .before .before .before .before .before .before .before .before .before .before .node2 .kept .1 .1 .1 .1 .1 .0 ∙ c .before .before .before .before .before .before .before .before .before .before .before .before .before .before .before .before .before .before .before .enter .kept .1 .1 .1 .1 .1 .0) (c .before .before .before .before .before .before .before .before .before .before .before .before .before .before .before .before .before .before .before .before .before .if1 .left)) in
+      let i = judges-is (c .before .before .before .before .before .before .before .before .one4 .given .1) (c .before .before .before .before .before .before .before .before .before .before .before .before .node2 .ensures .1 ds us (e .told .0) (p .parameters) (p .clauses) (p .bindings) (p .goal) (part-ready ready (c .before .before .before .before .before .before .before .before .before .before .before .before .before .before .before .before .before .before .before .enter .kept .1 .1 .1 .1 .1 .0) (c .before .before .before .before .before .before .before .before .before .before .before .before .before .before .before .before .before .before .before .before .before .if1 .left) p)) in
+      let j = c .before .before .before .before .before .node3 .ensures .1 ds us (e .told .1) (q .parameters) (q .clauses) (q .bindings) (q .goal) (second-ready ready e i (c .before .before .before .before .before .before .before .before .before .before .before .before .node2 .kept .1 .1 .1 .1 .1 .0 ∙ c .before .before .before .before .before .before .before .before .before .before .before .before .before .before .before .before .before .before .before .enter .kept .1 .1 .1 .1 .1 .0) (c .before .before .before .before .before .before .before .before .before .before .before .before .before .before .before .before .before .before .before .before .before .if1 .left)) in
       two-second ready e i (judges-is (c .before .two .given .1) j))
 
 -- src/node.rt:93:1
@@ -203,12 +203,12 @@ node-same-length-7 t c = c .before .before .before .before .before .before .befo
 -- src/node.rt:93:1
 node-returns-8 : (t : ℕ) → node-lts.Need-returns-8 (enter-reads.Asked, enter-reads.Learnt, leaf-reads.Asked, leaf-reads.Learnt, node-below t, node.Post, close-reads.Asked, close-reads.Learnt, higher-reads.Asked, higher-reads.Learnt) (node-at t) node.Post
 node-returns-8 t c =
-    (c .close2 .ensures .0, λ us P o h bs g ready.
-      let e = enter-is (c .before .before .before .before .before .before .before .before .before .before .before .before .before .before .before .before .before .e3 .given .1) (c .before .before .before .before .before .before .before .before .before .before .before .before .before .before .before .before .before .before .before .before .before .enter .ensures us P o h bs g ready) in
+    (c .close2 .ensures .0, λ ds us P o h bs g ready.
+      let e = enter-is (c .before .before .before .before .before .before .before .before .before .before .before .before .before .before .before .before .before .e3 .given .1) (c .before .before .before .before .before .before .before .before .before .before .before .before .before .before .before .before .before .before .before .before .before .enter .ensures ds us P o h bs g ready) in
       let p = e .told .4 in
       let q = e .told .5 in
-      let i = judges-is (c .before .before .before .before .before .before .before .before .before .before .one4 .given .1) (c .before .before .before .before .before .before .before .before .before .before .before .before .before .before .node2 .ensures .1 us (e .told .0) (p .parameters) (p .clauses) (p .bindings) (p .goal) (part-ready ready (c .before .before .before .before .before .before .before .before .before .before .before .before .before .before .before .before .before .before .before .before .before .enter .kept .1 .1 .1 .1 .1 .0) (c .before .before .before .before .before .before .before .before .before .before .before .before .before .before .before .before .before .before .before .before .before .before .before .if1 .left) p)) in
-      let j = judges-is (c .before .before .before .two2 .given .1) (c .before .before .before .before .before .before .before .node3 .ensures .1 us (e .told .1) (q .parameters) (q .clauses) (q .bindings) (q .goal) (second-ready ready e i (c .before .before .before .before .before .before .before .before .before .before .before .before .before .before .node2 .kept .1 .1 .1 .1 .1 .0 ∙ c .before .before .before .before .before .before .before .before .before .before .before .before .before .before .before .before .before .before .before .before .before .enter .kept .1 .1 .1 .1 .1 .0) (c .before .before .before .before .before .before .before .before .before .before .before .before .before .before .before .before .before .before .before .before .before .before .before .if1 .left))) in
+      let i = judges-is (c .before .before .before .before .before .before .before .before .before .before .one4 .given .1) (c .before .before .before .before .before .before .before .before .before .before .before .before .before .before .node2 .ensures .1 ds us (e .told .0) (p .parameters) (p .clauses) (p .bindings) (p .goal) (part-ready ready (c .before .before .before .before .before .before .before .before .before .before .before .before .before .before .before .before .before .before .before .before .before .enter .kept .1 .1 .1 .1 .1 .0) (c .before .before .before .before .before .before .before .before .before .before .before .before .before .before .before .before .before .before .before .before .before .before .before .if1 .left) p)) in
+      let j = judges-is (c .before .before .before .two2 .given .1) (c .before .before .before .before .before .before .before .node3 .ensures .1 ds us (e .told .1) (q .parameters) (q .clauses) (q .bindings) (q .goal) (second-ready ready e i (c .before .before .before .before .before .before .before .before .before .before .before .before .before .before .node2 .kept .1 .1 .1 .1 .1 .0 ∙ c .before .before .before .before .before .before .before .before .before .before .before .before .before .before .before .before .before .before .before .before .before .enter .kept .1 .1 .1 .1 .1 .0) (c .before .before .before .before .before .before .before .before .before .before .before .before .before .before .before .before .before .before .before .before .before .before .before .if1 .left))) in
       let (a, r) = two-fit ready e i j (bounded-is _ _ _ (c .before .before .before .before .before .before .before .before .before .before .one4 .given .1) (c .before .before .before .before .before .before .before .before .before .before .before .before .before .before .node2 .ensures .0)) (bounded-is _ _ _ (c .before .before .before .two2 .given .1) (c .before .before .before .before .before .before .before .node3 .ensures .0)) (c .before .before .before .before .before .before .before .before .before .before .before .before .before .before .before .before .before .before .before .before .before .before .before .if1 .left) (c .before .higher .result) (c .before .higher .ensures) in
       judges-is (sym (c .close2 .ensures .1 a (r .0) (r .1 .0))) (r .1 .1))
 
