@@ -17,6 +17,8 @@ use Rattle.room.specs.Layout.{words, levels, supposedWord, stack, Enough}
 use Rattle.room.specs.Spot.{fileOf, bindingsAt, supposedIn}
 use Rattle.room.specs.Table.{RulesIn, CandidatesIn}
 use Rattle.room.specs.declared.Spot.{Spot}
+use Rattle.packet.specs.declared.Word.{Word}
+use Rattle.judge.specs.Heads.{stripWord}
 use Rattle.judge.specs.declared.node.Where.{Where}
 use Rattle.judge.specs.declared.node.Entered.{Entered}
 use Rattle.judge.specs.declared.node.Entered.the-variants as E
@@ -139,6 +141,14 @@ pub record Judges (room after : List ℕ) (w : Where) (at : ℕ) (P : Strip) (j 
 abbrev pub Entering : Files → List ℕ → List ℕ → List ℕ → ℕ → Where → ℕ → Entered → Type 0
 Entering f ss room after at w nest r =
     (ds : List (Clause Plain)) (us : List Term) (P : Strip) (o : List Plain) (c : Hand Plain) (bs : Bindings) (g : Goal Plain) →
+    Ready f ss room ds us w at nest P o c bs g →
+    Enters f ss room after ds us w at P (check (listed us) P o c bs g) r
+
+-- the first of them for nodes with one word
+abbrev pub EnteringAs : Word → Files → List ℕ → List ℕ → List ℕ → ℕ → Where → ℕ → Entered → Type 0
+EnteringAs word f ss room after at w nest r =
+    (ds : List (Clause Plain)) (us : List Term) (P : Strip) (o : List Plain) (c : Hand Plain) (bs : Bindings) (g : Goal Plain) →
+    stripWord P ≡ word →
     Ready f ss room ds us w at nest P o c bs g →
     Enters f ss room after ds us w at P (check (listed us) P o c bs g) r
 
