@@ -123,6 +123,7 @@ booked-kept {f} {room} {after} {ds} {us} k b =
       };
       rules-small = b .rules-small;
       goal-small = b .goal-small;
+      terms-small = b .terms-small;
     }
 
 -- a place whose words are as they were means what it meant
@@ -131,6 +132,7 @@ means-kept {w = w} k m =
     record {
       booked = booked-kept k (m .booked);
       framed = framed-kept {t = w .top} (omega arith) k (m .framed);
+      tight = m .tight;
       openly = m .openly;
       hand = hand-kept k (m .hand);
     }

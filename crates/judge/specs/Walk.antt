@@ -1,6 +1,6 @@
 -- What a place is in the work room, and what the walk down the strip says of it (document 01, "When a strip fits").
 -- The places are those of crate harrop; here stands how the room and the files' bytes show one.
-use Prim.Native.Nat.{ℕ, zero, suc, _+_, _*_, _≤_, _<_, _-_}
+use Prim.Native.Nat.{ℕ, zero, suc, _+_, _*_, _≤_, _<_, _-_, min}
 use mathlib.Core.Path.{_≡_}
 use mathlib.Core.List.{List, [], _∷_, _++_}
 use mathlib.Core.Option.{Option, none, some}
@@ -61,13 +61,36 @@ pub record Booked (f : Files) (room : List ℕ) (ds : List (Clause Plain)) (us :
   pub candidates : CandidatesIn room (f .terms) us
   pub rules-small : length (f .rules) ≤ mostBytes
   pub goal-small : length (f .goal) ≤ mostBytes
+  pub terms-small : length (f .terms) ≤ mostBytes
 
 -- a place as the walk has it: goal, bindings, clauses at hand and open parameters
 pub record Means (f : Files) (room : List ℕ) (ds : List (Clause Plain)) (us : List Term) (w : Where) (o : List Plain) (c : Hand Plain) (bs : Bindings) (g : Goal Plain) : Type 0 where
   pub booked : Booked f room ds us
   pub framed : Framed f room (w .goal) (w .top) (goalSexp g) bs
+  pub tight : w .goal .base + w .goal .count ≡ w .top
   pub openly : length o ≡ w .parameters
   pub hand : HandIn f room ds (w .supposed) (w .top) c
+
+-- a sum that no packet makes too large for a machine word
+abbrev pub plus : ℕ → ℕ → ℕ
+plus a b = min (a + b) 18446744073709551615
+
+-- the spot of a part of what stands at a spot, n bytes further on
+abbrev pub further : Spot → ℕ → Spot
+further x n = record { source = x .source; at = plus (x .at) n; base = x .base; count = x .count }
+
+-- the place of a part of the goal, with the same clauses, parameters and bindings
+abbrev pub within : Where → ℕ → Where
+within w n = record { goal = further (w .goal) n; supposed = w .supposed; parameters = w .parameters; top = w .top }
+
+-- the same with one variable more, which is on top of the stack
+abbrev pub bound : Where → ℕ → ℕ → Where
+bound w n p = record {
+  goal = record { source = w .goal .source; at = plus (w .goal .at) n; base = w .goal .base; count = plus (w .goal .count) 1 };
+  supposed = w .supposed;
+  parameters = p;
+  top = plus (w .top) 1;
+}
 
 -- what the checker's definition says, in offsets of the strip file
 abbrev pub outcome : ℕ → Strip → Judged → Outcome

@@ -1,0 +1,170 @@
+-- What a node other than `use` says at its own place: it fits exactly if the goal has its word, and the places of its parts (document 01, "When a strip fits").
+use Prim.Native.Nat.{ℕ, zero, suc, _+_, _*_, _-_, _≤_, _<_, max, min}
+use native.Mathlib.Omega.{arith}
+use mathlib.Core.Path.{_≡_, refl, sym, _∙_, ap, ap₂, subst}
+use mathlib.Core.List.{List, [], _∷_, _++_}
+use mathlib.Core.Option.{Option, none, some}
+use lib.ListN.{length, getD, getElem?, set}
+use lib.Seq.{getD-set-other}
+use Rattle.basics.specs.Choice.{maybe}
+use Rattle.basics.specs.Text.{octets}
+use Rattle.harrop.specs.Formula.{Term, Goal, Clause, Strip}
+use Rattle.harrop.specs.Bindings.{Bindings}
+use Rattle.harrop.specs.Place.{AtHand, Hand, Plain, listed}
+use Rattle.harrop.specs.Views.{asTop, asAnd, asOr, asSome, asAll, asImp}
+use Rattle.harrop.specs.Check.{Judged, Position, here, above, aboveBoth, check}
+use Rattle.sexp.specs.Sexp.{Sexp, Sexps, Stands, StandsAll, spell, spells, nesting}
+use Rattle.sexp.specs.Decimal.{decimalOnto}
+use Rattle.sexp.specs.Past.{PastAt, Ends}
+use Rattle.sexp.proofs.StandLaws.{first-stands, others-stand, stands-inside, stands-once, cons-length}
+use Rattle.packet.specs.Written.{word, one, two, number, goalSexp, clauseSexp, stripSexp}
+use Rattle.packet.specs.Offset.{width, offsetOf}
+use Rattle.packet.specs.File.{mostBytes}
+use Rattle.packet.specs.declared.Word.{Word}
+use Rattle.packet.specs.declared.Word.the-variants as W
+use Rattle.room.specs.Layout.{words, levels, supposedWord, stack, Enough}
+use Rattle.room.specs.Spot.{fileOf, bindingsAt}
+use Rattle.room.specs.declared.Source.{Source}
+use Rattle.room.specs.declared.Source.the-variants as S
+use Rattle.room.specs.declared.Spot.{Spot}
+use Rattle.judge.specs.Heads.{stripWord, goalWord}
+use Rattle.judge.specs.Walk.{Files, Live, Kept, Framed, HandIn, Booked, Means, Ready, Part, Told, Enters, plus, further, within, bound}
+use Rattle.judge.specs.declared.node.Where.{Where}
+use Rattle.judge.specs.declared.node.Entered.{Entered}
+use Rattle.judge.specs.declared.node.Entered.the-variants as E
+use Rattle.judge.proofs.HeadLaws.{after-word, word-width, shape-is, not-top, not-and, not-or, not-some, not-all, not-imp, node-shape}
+
+-- no file is longer than its size
+pub file-small : {f : Files} {room : List ℕ} {ds : List (Clause Plain)} {us : List Term} → Booked f room ds us → (x : Source) → length (fileOf (f .rules) (f .goal) (f .terms) x) ≤ mostBytes
+file-small b S.Rules = b .rules-small
+file-small b S.Goal = b .goal-small
+file-small b S.Terms = b .terms-small
+
+-- an offset inside a file is far below the largest word
+pub plus-inside : (s : List ℕ) (a n : ℕ) {e : Sexp} → length s ≤ mostBytes → Stands s (a + n) e → plus a n ≡ a + n
+plus-inside s a n l h = let i = stands-inside h in omega arith
+
+module _ {f : Files} {room : List ℕ} {ds : List (Clause Plain)} {us : List Term} {w : Where} {o : List Plain} {c : Hand Plain} {bs : Bindings} {g : Goal Plain} (m : Means f room ds us w o c bs g) where
+  -- the goal's file
+  abbrev file : List ℕ
+  file = fileOf (f .rules) (f .goal) (f .terms) (w .goal .source)
+
+  -- the place of a part of the goal
+  pub part-means : (n : ℕ) (g′ : Goal Plain) → Stands file (w .goal .at + n) (goalSexp g′) → nesting (goalSexp g′) ≤ nesting (goalSexp g) → Means f room ds us (within w n) o c bs g′
+  part-means n g′ h l =
+      record {
+        booked = m .booked;
+        framed =
+        record {
+          stands = subst (λ (i : ℕ). Stands file i (goalSexp g′)) (sym (plus-inside file (w .goal .at) n (file-small (m .booked) (w .goal .source)) h)) h;
+          above = m .framed .above;
+          below = m .framed .below;
+          holds = m .framed .holds;
+          shallow = omega (arith, m .framed .shallow);
+        };
+        tight = m .tight;
+        openly = m .openly;
+        hand = m .hand;
+      }
+
+-- where the expression that stands there ends
+pub ends-is : {s : List ℕ} {at nest n : ℕ} {e : Sexp} → Stands s at e → Ends s at nest n → n ≡ at + length (spell e)
+ends-is h x = x .ends ∙ ap (λ (y : Sexp). _ + length (spell y)) (stands-once (x .stands) h)
+
+-- how many bytes come before the members of a list with a word: its parenthesis and the word
+abbrev pub head : List ℕ → ℕ
+head v = 1 + length (spell (Sexp.str v))
+
+-- the heads of the words, of which the code has the numbers
+pub heads : (head (octets "top") ≡ 6) × ((head (octets "and") ≡ 6) × ((head (octets "or") ≡ 5) × ((head (octets "left") ≡ 7) × ((head (octets "right") ≡ 8) × ((head (octets "some") ≡ 7) × ((head (octets "all") ≡ 6) × ((head (octets "imp") ≡ 6) × (head (octets "use") ≡ 6))))))))
+unfolding decimalOnto
+heads = (refl, (refl, (refl, (refl, (refl, (refl, (refl, (refl, refl))))))))
+
+-- the first and the second member after a word, and how wide the whole is
+module _ {s : List ℕ} {at k : ℕ} (v : List ℕ) (e : head v ≡ k) where
+  pub first-part : {x : Sexp} {xs : Sexps} → Stands s at (word v (Sexps.cons x xs)) → Stands s (at + k) x
+  first-part {x} h = subst (λ (i : ℕ). Stands s i x) (omega arith) (first-stands (after-word h))
+
+  pub second-part : {x y : Sexp} {xs : Sexps} → Stands s at (word v (Sexps.cons x (Sexps.cons y xs))) → Stands s (at + (k + width x)) y
+  second-part {x} {y} h = subst (λ (i : ℕ). Stands s i y) (omega arith) (first-stands (others-stand (after-word h)))
+
+module _ {k : ℕ} (v : List ℕ) (e : head v ≡ k) where
+  pub none-width : width (word v Sexps.nil) ≡ k + 1
+  none-width = omega (arith, word-width v Sexps.nil)
+
+  pub one-width : (x : Sexp) → width (word v (one x)) ≡ k + width x + 1
+  one-width x = omega (arith, word-width v (one x), cons-length x Sexps.nil)
+
+  pub two-width : (x y : Sexp) → width (word v (two x y)) ≡ k + width x + width y + 1
+  two-width x y = omega (arith, word-width v (two x y), cons-length x (one y), cons-length y Sexps.nil)
+
+module _ {f : Files} {ss room : List ℕ} {ds : List (Clause Plain)} {us : List Term} {w : Where} {at nest : ℕ} {P : Strip} {o : List Plain} {c : Hand Plain} {bs : Bindings} {g : Goal Plain} (ready : Ready f ss room ds us w at nest P o c bs g) where
+  -- a part that changes nothing but the goal
+  pub same-part : (start n i : ℕ) (part : Strip) (g′ : Goal Plain) → Stands ss start (stripSexp part) → suc (nesting (stripSexp part)) ≤ nesting (stripSexp P) → at < start → Stands (file (ready .place)) (w .goal .at + n) (goalSexp g′) → nesting (goalSexp g′) ≤ nesting (goalSexp g) → ((pos : Position) → at + offsetOf P (i ∷ pos) ≡ start + offsetOf part pos) → Part f ss room ds us w (within w n) at start P part i (check (listed us) part o c bs g′)
+  same-part start n i part g′ st sh la h l off =
+      record {
+        goal = g′;
+        parameters = o;
+        clauses = c;
+        bindings = bs;
+        place = part-means (ready .place) n g′ h l;
+        stands = st;
+        shallower = sh;
+        later = la;
+        supposes = omega arith;
+        supposes-one = omega arith;
+        opens-one = omega arith;
+        higher = omega arith;
+        room-left = omega arith;
+        says = refl;
+        offsets = off;
+      }
+
+abbrev Same : List ℕ → Files → List ℕ → List (Clause Plain) → List Term → Where → ℕ → Strip → Judged → Entered → Type 0
+Same room f ss ds us w at P j r = Enters f ss room room ds us w at P j r
+
+-- a node that does not fit, and changes nothing
+pub enters-misfit : {f : Files} {ss room : List ℕ} {ds : List (Clause Plain)} {us : List Term} {w : Where} {at : ℕ} {P : Strip} {j : Judged} → j ≡ here → Same room f ss ds us w at P j E.Misfit
+enters-misfit e = record { kept = λ i l. refl; told = e }
+
+module _ {f : Files} {ss room : List ℕ} {ds : List (Clause Plain)} {us : List Term} {w : Where} {at nest : ℕ} {o : List Plain} {c : Hand Plain} {bs : Bindings} where
+  pub top-fits : Ready f ss room ds us w at nest Strip.top o c bs Goal.top → Same room f ss ds us w at Strip.top (check (listed us) Strip.top o c bs Goal.top) (E.Leaf (at + 7))
+  top-fits r = record { kept = λ i l. refl; told = (refl, omega (arith, none-width (octets "top") (heads .0))) }
+
+  pub left-fits : {X : Strip} {a b : Goal Plain} → Ready f ss room ds us w at nest (Strip.left X) o c bs (Goal.or a b) → Same room f ss ds us w at (Strip.left X) (check (listed us) (Strip.left X) o c bs (Goal.or a b)) (E.One (at + 7) (within w 5))
+  left-fits {X} {a} {b} r =
+      record {
+        kept = λ i l. refl;
+        told = (X, check (listed us) X o c bs a, same-part r (at + 7) 5 0 X a (first-part (octets "left") (heads .1 .1 .1 .0) (r .stands)) (omega arith) (omega arith) (first-part (octets "or") (heads .1 .1 .0) (r .place .framed .stands)) (omega arith) (λ pos. omega arith), refl, omega (arith, one-width (octets "left") (heads .1 .1 .1 .0) (stripSexp X)));
+      }
+
+  pub right-fits : {X : Strip} {a b : Goal Plain} {n : ℕ} → Ready f ss room ds us w at nest (Strip.right X) o c bs (Goal.or a b) → n ≡ 5 + width (goalSexp a) → Same room f ss ds us w at (Strip.right X) (check (listed us) (Strip.right X) o c bs (Goal.or a b)) (E.One (at + 8) (within w n))
+  right-fits {X} {a} {b} {n} r e =
+      record {
+        kept = λ i l. refl;
+        told = (X, check (listed us) X o c bs b, same-part r (at + 8) n 0 X b (first-part (octets "right") (heads .1 .1 .1 .1 .0) (r .stands)) (omega arith) (omega arith) (subst (λ (i : ℕ). Stands (file (r .place)) (w .goal .at + i) (goalSexp b)) (sym e) (second-part (octets "or") (heads .1 .1 .0) (r .place .framed .stands))) (omega arith) (λ pos. omega arith), refl, omega (arith, one-width (octets "right") (heads .1 .1 .1 .1 .0) (stripSexp X)));
+      }
+
+  pub and-fits : {X Y : Strip} {a b : Goal Plain} {n : ℕ} → Ready f ss room ds us w at nest (Strip.and X Y) o c bs (Goal.and a b) → n ≡ 6 + width (goalSexp a) → Same room f ss ds us w at (Strip.and X Y) (check (listed us) (Strip.and X Y) o c bs (Goal.and a b)) (E.Two (at + 6) (within w 6) (within w n))
+  and-fits {X} {Y} {a} {b} {n} r e =
+      let g = r .place .framed .stands in
+      record {
+        kept = λ i l. refl;
+        told = (
+          X,
+          Y,
+          check (listed us) X o c bs a,
+          check (listed us) Y o c bs b,
+          same-part r (at + 6) 6 0 X a (first-part (octets "and") (heads .1 .0) (r .stands)) (omega arith) (omega arith) (first-part (octets "and") (heads .1 .0) g) (omega arith) (λ pos. omega arith),
+          same-part r (at + 6 + width (stripSexp X)) n 1 Y b (subst (λ (i : ℕ). Stands ss i (stripSexp Y)) (omega arith) (second-part (octets "and") (heads .1 .0) (r .stands))) (omega arith) (omega arith) (subst (λ (i : ℕ). Stands (file (r .place)) (w .goal .at + i) (goalSexp b)) (sym e) (second-part (octets "and") (heads .1 .0) g)) (omega arith) (λ pos. omega arith),
+          omega arith,
+          omega arith,
+          refl,
+          omega (arith, two-width (octets "and") (heads .1 .0) (stripSexp X) (stripSexp Y)),
+        );
+      }
+
+-- a word put on top of the stack is none that the place relies on
+pub push-keeps : (room : List ℕ) (supposed top v : ℕ) → supposed ≤ 63 → stack ≤ top → Kept supposed top room (set room top v)
+push-keeps room supposed top v l h i (Live.low k) = getD-set-other room top i v 0 (λ e. omega arith)
+push-keeps room supposed top v l h i (Live.high k k′) = getD-set-other room top i v 0 (λ e. omega arith)
