@@ -29,43 +29,11 @@ use Rattle.room.specs.declared.Source.the-variants as S
 use Rattle.room.specs.declared.Spot.{Spot}
 use Rattle.judge.specs.Heads.{stripWord, goalWord}
 use Rattle.judge.specs.Walk.{Files, Live, Kept, Framed, HandIn, Booked, Means, Ready, Part, Told, Enters, plus, further, within, bound}
-use Rattle.judge.specs.declared.node.Where.{Where}
+use Rattle.room.specs.declared.Where.{Where}
+use Rattle.room.proofs.WhereLaws.{file-small, plus-inside, file, part-means, push-keeps}
 use Rattle.judge.specs.declared.node.Entered.{Entered}
 use Rattle.judge.specs.declared.node.Entered.the-variants as E
 use Rattle.judge.proofs.HeadLaws.{after-word, word-width, shape-is, not-top, not-and, not-or, not-some, not-all, not-imp, node-shape}
-
--- no file is longer than its size
-pub file-small : {f : Files} {room : List ℕ} {ds : List (Clause Plain)} {us : List Term} → Booked f room ds us → (x : Source) → length (fileOf (f .rules) (f .goal) (f .terms) x) ≤ mostBytes
-file-small b S.Rules = b .rules-small
-file-small b S.Goal = b .goal-small
-file-small b S.Terms = b .terms-small
-
--- an offset inside a file is far below the largest word
-pub plus-inside : (s : List ℕ) (a n : ℕ) {e : Sexp} → length s ≤ mostBytes → Stands s (a + n) e → plus a n ≡ a + n
-plus-inside s a n l h = let i = stands-inside h in omega arith
-
-module _ {f : Files} {room : List ℕ} {ds : List (Clause Plain)} {us : List Term} {w : Where} {o : List Plain} {c : Hand Plain} {bs : Bindings} {g : Goal Plain} (m : Means f room ds us w o c bs g) where
-  -- the goal's file
-  abbrev file : List ℕ
-  file = fileOf (f .rules) (f .goal) (f .terms) (w .goal .source)
-
-  -- the place of a part of the goal
-  pub part-means : (n : ℕ) (g′ : Goal Plain) → Stands file (w .goal .at + n) (goalSexp g′) → nesting (goalSexp g′) ≤ nesting (goalSexp g) → Means f room ds us (within w n) o c bs g′
-  part-means n g′ h l =
-      record {
-        booked = m .booked;
-        framed =
-        record {
-          stands = subst (λ (i : ℕ). Stands file i (goalSexp g′)) (sym (plus-inside file (w .goal .at) n (file-small (m .booked) (w .goal .source)) h)) h;
-          above = m .framed .above;
-          below = m .framed .below;
-          holds = m .framed .holds;
-          shallow = omega (arith, m .framed .shallow);
-        };
-        tight = m .tight;
-        openly = m .openly;
-        hand = m .hand;
-      }
 
 -- where the expression that stands there ends
 pub ends-is : {s : List ℕ} {at nest n : ℕ} {e : Sexp} → Stands s at e → Ends s at nest n → n ≡ at + length (spell e)
@@ -163,8 +131,3 @@ module _ {f : Files} {ss room : List ℕ} {ds : List (Clause Plain)} {us : List 
           omega (arith, two-width (octets "and") (heads .1 .0) (stripSexp X) (stripSexp Y)),
         );
       }
-
--- a word put on top of the stack is none that the place relies on
-pub push-keeps : (room : List ℕ) (supposed top v : ℕ) → supposed ≤ 63 → stack ≤ top → Kept supposed top room (set room top v)
-push-keeps room supposed top v l h i (Live.low k) = getD-set-other room top i v 0 (λ e. omega arith)
-push-keeps room supposed top v l h i (Live.high k k′) = getD-set-other room top i v 0 (λ e. omega arith)

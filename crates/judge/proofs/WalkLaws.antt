@@ -5,27 +5,18 @@ use mathlib.Core.Path.{_≡_, refl, sym, _∙_, ap, ap₂, subst}
 use mathlib.Core.List.{List, [], _∷_}
 use lib.ListN.{length, getD}
 use Rattle.sexp.proofs.OntoLaws.{spell-some}
-use lib.Dec.{ltb}
-use Rattle.basics.specs.Choice.{choose}
-use Rattle.packet.specs.Written.{clauseSexp, termSexp}
-use Rattle.room.specs.Layout.{words, levels, rulesWord, ruleWord, candidatesWord, candidateWord, highestWord, supposedWord, supposedAtMost, stack, Enough}
-use Rattle.room.specs.Spot.{sourceOf, spotFrom, supposedIn, nowhere}
-use Rattle.room.specs.Table.{RulesIn, CandidatesIn}
-use Rattle.room.proofs.FrameLaws.{frames-alike}
-use Rattle.room.proofs.FileLaws.{spot-alike}
-use Rattle.room.specs.declared.Spot.{Spot}
-use Rattle.sexp.specs.Sexp.{Sexp}
+use Rattle.room.specs.Layout.{words, levels, Enough}
 use Rattle.harrop.specs.Formula.{Term, Goal, Clause, Strip}
 use Rattle.harrop.specs.Bindings.{Bindings}
-use Rattle.harrop.specs.Place.{AtHand, Hand, Plain, listed}
-use Rattle.harrop.proofs.ListLaws.{member-below}
+use Rattle.harrop.specs.Place.{Hand, Plain, listed}
 use Rattle.harrop.specs.Check.{Judged, Position, here, above, aboveBoth, check}
 use Rattle.sexp.specs.Sexp.{Stands, nesting}
 use Rattle.sexp.proofs.StandLaws.{stands-inside, stands-before}
 use Rattle.packet.specs.Written.{stripSexp, goalSexp}
 use Rattle.packet.specs.Offset.{width, offsetOf}
-use Rattle.judge.specs.Walk.{Files, Live, Kept, Framed, HandIn, Booked, Means, Ready, Part, Told, Enters, Judges, Bounded, outcome}
-use Rattle.judge.specs.declared.node.Where.{Where}
+use Rattle.judge.specs.Walk.{Files, Kept, Ready, Part, Told, Enters, Judges, Bounded, outcome}
+use Rattle.room.specs.declared.Where.{Where}
+use Rattle.room.proofs.WhereLaws.{live-more, kept-then, kept-less, means-kept}
 use Rattle.judge.specs.declared.node.Entered.{Entered}
 use Rattle.judge.specs.declared.node.Entered.the-variants as E
 use Rattle.judge.specs.declared.node.Outcome.{Outcome}
@@ -54,88 +45,6 @@ strip-nests (Strip.all P) = omega arith
 strip-nests (Strip.imp P) = omega arith
 strip-nests (Strip.use₀ k path) = omega arith
 strip-nests (Strip.use₁ k path P) = omega arith
-
--- what a place with fewer supposed clauses and a lower top relies on, one with more relies on too
-pub live-more : {s s′ t t′ i : ℕ} → s ≤ s′ → t ≤ t′ → Live s t i → Live s′ t′ i
-live-more a b (Live.low h) = Live.low (omega arith)
-live-more a b (Live.high h k) = Live.high h (omega arith)
-
-pub kept-then : {s s′ t t′ : ℕ} (a b c : List ℕ) → s ≤ s′ → t ≤ t′ → Kept s t a b → Kept s′ t′ b c → Kept s t a c
-kept-then a b c p q x y i l = y i (live-more p q l) ∙ x i l
-
-pub kept-less : {s s′ t t′ : ℕ} (a b : List ℕ) → s ≤ s′ → t ≤ t′ → Kept s′ t′ a b → Kept s t a b
-kept-less a b p q x i l = x i (live-more p q l)
-
--- a formula whose words are as they were
-pub framed-kept : {f : Files} {room after : List ℕ} {x : Spot} {top s t : ℕ} {e : Sexp} {bs : Bindings} → top ≤ t → Kept s t room after → Framed f room x top e bs → Framed f after x top e bs
-framed-kept {room = room} {after = after} {x = x} l k h =
-    record {
-      stands = h .stands;
-      above = h .above;
-      below = h .below;
-      holds = frames-alike after room (x .base) (x .base) (x .count) (λ i p. k (x .base + i) (Live.high (omega (arith, h .above)) (omega (arith, h .below)))) ∙ h .holds;
-      shallow = h .shallow;
-    }
-
--- the spot of a supposed clause, where its four words are as they were
-supposed-kept : (room after : List ℕ) (s t j : ℕ) → j < s → Kept s t room after → supposedIn after j ≡ supposedIn room j
-unfolding supposedIn
-supposed-kept room after s t j l k =
-    ap (λ (x : Spot). choose (ltb j supposedAtMost) x nowhere)
-    (spot-alike (ap sourceOf (k (supposedWord j) (Live.low (omega arith)))) (k (supposedWord j + 1) (Live.low (omega arith))) (k (supposedWord j + 2) (Live.low (omega arith))) (k (supposedWord j + 3) (Live.low (omega arith))))
-
-pub hand-kept : {f : Files} {room after : List ℕ} {ds : List (Clause Plain)} {supposed top : ℕ} {c : Hand Plain} → Kept supposed top room after → HandIn f room ds supposed top c → HandIn f after ds supposed top c
-hand-kept {f} {room} {after} {ds} {supposed} {top} {c} k h =
-    record {
-      number = h .number;
-      rule = h .rule;
-      suppose = λ j d q.
-      let b = member-below c (length ds + j) d q in
-      let e = supposed-kept room after supposed top j (omega (arith, h .number)) k in
-      subst (λ (x : Spot). Framed f after x top (clauseSexp (d .clause)) (d .bindings)) (sym e) (framed-kept {t = top} (omega arith) k (h .suppose j d q));
-    }
-
--- the tables of rules and candidates lie below the supposed clauses
-pub booked-kept : {f : Files} {room after : List ℕ} {ds : List (Clause Plain)} {us : List Term} {s t : ℕ} → Kept s t room after → Booked f room ds us → Booked f after ds us
-booked-kept {f} {room} {after} {ds} {us} k b =
-    record {
-      rules =
-      record {
-        counted = k rulesWord (Live.low (omega arith)) ∙ b .rules .counted;
-        few = b .rules .few;
-        starts = λ i d q.
-        let l = member-below ds i d q in
-        subst (λ (n : ℕ). Stands (f .rules) n (clauseSexp d)) (sym (k (ruleWord i) (Live.low (omega (arith, b .rules .few))))) (b .rules .starts i d q);
-      };
-      shallow = b .shallow;
-      candidates =
-      record {
-        counted = k candidatesWord (Live.low (omega arith)) ∙ b .candidates .counted;
-        few = b .candidates .few;
-        starts = λ i t q.
-        let l = member-below us i t q in
-        subst (λ (n : ℕ). Stands (f .terms) n (termSexp t)) (sym (k (candidateWord i) (Live.low (omega (arith, b .candidates .few))))) (b .candidates .starts i t q);
-        highests = λ i t q.
-        let l = member-below us i t q in
-        k (highestWord i) (Live.low (omega (arith, b .candidates .few))) ∙ b .candidates .highests i t q;
-        closed = b .candidates .closed;
-        shallow = b .candidates .shallow;
-      };
-      rules-small = b .rules-small;
-      goal-small = b .goal-small;
-      terms-small = b .terms-small;
-    }
-
--- a place whose words are as they were means what it meant
-pub means-kept : {f : Files} {room after : List ℕ} {ds : List (Clause Plain)} {us : List Term} {w : Where} {o : List Plain} {c : Hand Plain} {bs : Bindings} {g : Goal Plain} → Kept (w .supposed) (w .top) room after → Means f room ds us w o c bs g → Means f after ds us w o c bs g
-means-kept {w = w} k m =
-    record {
-      booked = booked-kept k (m .booked);
-      framed = framed-kept {t = w .top} (omega arith) k (m .framed);
-      tight = m .tight;
-      openly = m .openly;
-      hand = hand-kept k (m .hand);
-    }
 
 -- what a node says above its part, in offsets
 pub fits-same : {a b c a′ b′ c′ : ℕ} → a ≡ a′ → b ≡ b′ → c ≡ c′ → O.Fits a b c ≡ O.Fits a′ b′ c′
@@ -211,11 +120,11 @@ module _ {f : Files} {ss : List ℕ} {ds : List (Clause Plain)} {us : List Term}
           stands = p .stands;
           nests = omega (arith, p .shallower, ready .nests);
           enough =
-          record {
-            bindings = omega (arith, p .room-left, ready .enough .bindings);
-            supposed = omega (arith, p .supposes-one, ready .enough .supposed);
-            opened = omega (arith, p .opens-one, ready .enough .opened);
-          };
+              record {
+                bindings = omega (arith, p .room-left, ready .enough .bindings);
+                supposed = omega (arith, p .supposes-one, ready .enough .supposed);
+                opened = omega (arith, p .opens-one, ready .enough .opened);
+              };
           long = omega (arith, ready .long);
         }
 
@@ -232,8 +141,7 @@ module _ {f : Files} {ss : List ℕ} {ds : List (Clause Plain)} {us : List Term}
         let (part, k, p, j, whole) = e .told in
         let a = d .answer ∙ ap (outcome start part) (sym (p .says)) in
         let q = fits-at start part k next h n a in
-        let i = stands-inside (ready .stands) in
-        (
+        let i = stands-inside (ready .stands) in (
           omega arith,
           (
             omega (arith, p .later),
@@ -265,11 +173,11 @@ module _ {f : Files} {ss : List ℕ} {ds : List (Clause Plain)} {us : List Term}
           stands = subst (λ (i : ℕ). Stands ss i (stripSexp Y)) (sym a) (q .stands);
           nests = omega (arith, q .shallower, ready .nests);
           enough =
-          record {
-            bindings = omega (arith, q .room-left, ready .enough .bindings);
-            supposed = omega (arith, q .supposes-one, ready .enough .supposed);
-            opened = omega (arith, q .opens-one, ready .enough .opened);
-          };
+              record {
+                bindings = omega (arith, q .room-left, ready .enough .bindings);
+                supposed = omega (arith, q .supposes-one, ready .enough .supposed);
+                opened = omega (arith, q .opens-one, ready .enough .opened);
+              };
           long = omega (arith, ready .long);
         }
 
@@ -290,8 +198,7 @@ module _ {f : Files} {ss : List ℕ} {ds : List (Clause Plain)} {us : List Term}
         let y = f .answer ∙ ap (outcome mid Y) (sym (q .says)) in
         let a = fits-at start X k mid h n x in
         let a′ = fits-at mid Y l next h′ n′ y in
-        let i = stands-inside (ready .stands) in
-        (
+        let i = stands-inside (ready .stands) in (
           omega arith,
           (
             omega (arith, p .later),

@@ -13,84 +13,15 @@ use Rattle.sexp.specs.Sexp.{Sexp, Stands, nesting}
 use Rattle.packet.specs.Written.{goalSexp, clauseSexp, stripSexp}
 use Rattle.packet.specs.Offset.{width, offsetOf}
 use Rattle.packet.specs.File.{mostBytes}
-use Rattle.room.specs.Layout.{words, levels, supposedWord, stack, Enough}
-use Rattle.room.specs.Spot.{fileOf, bindingsAt, supposedIn}
-use Rattle.room.specs.Table.{RulesIn, CandidatesIn}
-use Rattle.room.specs.declared.Spot.{Spot}
+use Rattle.room.specs.Layout.{words, levels, Enough}
+pub use Rattle.room.specs.Where.{Files, Live, Kept, Framed, HandIn, Booked, Means, filesOf, plus, further, within, bound}
+use Rattle.room.specs.declared.Where.{Where}
 use Rattle.packet.specs.declared.Word.{Word}
 use Rattle.judge.specs.Heads.{stripWord}
-use Rattle.judge.specs.declared.node.Where.{Where}
 use Rattle.judge.specs.declared.node.Entered.{Entered}
 use Rattle.judge.specs.declared.node.Entered.the-variants as E
 use Rattle.judge.specs.declared.node.Outcome.{Outcome}
 use Rattle.judge.specs.declared.node.Outcome.the-variants as O
-
--- the bytes of rules, goal and terms
-pub record Files : Type 0 where
-  pub rules : List ℕ
-  pub goal : List ℕ
-  pub terms : List ℕ
-
--- the words that a place with so many supposed clauses and this top of the stack relies on
-pub data Live (supposed top i : ℕ) : Type 0 where
-  low : i < supposedWord supposed → Live supposed top i
-  high : stack ≤ i → i < top → Live supposed top i
-
--- they are as they were
-abbrev pub Kept : ℕ → ℕ → List ℕ → List ℕ → Type 0
-Kept supposed top room after = (i : ℕ) → Live supposed top i → getD after i 0 ≡ getD room i 0
-
--- a formula at a spot: its bytes, and its variables in a frame below the top. Each quantifier passed is a level of its file, so frame and formula are 64 at most
-pub record Framed (f : Files) (room : List ℕ) (x : Spot) (top : ℕ) (e : Sexp) (bs : Bindings) : Type 0 where
-  pub stands : Stands (fileOf (f .rules) (f .goal) (f .terms) (x .source)) (x .at) e
-  pub above : stack ≤ x .base
-  pub below : x .base + x .count ≤ top
-  pub holds : bindingsAt room x ≡ bs
-  pub shallow : x .count + nesting e ≤ levels
-
--- the clauses at hand: the rules, then those that are supposed
-pub record HandIn (f : Files) (room : List ℕ) (ds : List (Clause Plain)) (supposed top : ℕ) (c : Hand Plain) : Type 0 where
-  pub number : length c ≡ length ds + supposed
-  pub rule : (k : ℕ) (h : AtHand Plain) → k < length ds → getElem? c k ≡ some h → (h .bindings ≡ []) × (getElem? ds k ≡ some (h .clause))
-  pub suppose : (j : ℕ) (h : AtHand Plain) → getElem? c (length ds + j) ≡ some h → Framed f room (supposedIn room j) top (clauseSexp (h .clause)) (h .bindings)
-
--- the packet's rules and candidates in the files and in the room's tables
-pub record Booked (f : Files) (room : List ℕ) (ds : List (Clause Plain)) (us : List Term) : Type 0 where
-  pub rules : RulesIn room (f .rules) ds
-  pub shallow : (k : ℕ) (d : Clause Plain) → getElem? ds k ≡ some d → nesting (clauseSexp d) ≤ levels
-  pub candidates : CandidatesIn room (f .terms) us
-  pub rules-small : length (f .rules) ≤ mostBytes
-  pub goal-small : length (f .goal) ≤ mostBytes
-  pub terms-small : length (f .terms) ≤ mostBytes
-
--- a place as the walk has it: goal, bindings, clauses at hand and open parameters
-pub record Means (f : Files) (room : List ℕ) (ds : List (Clause Plain)) (us : List Term) (w : Where) (o : List Plain) (c : Hand Plain) (bs : Bindings) (g : Goal Plain) : Type 0 where
-  pub booked : Booked f room ds us
-  pub framed : Framed f room (w .goal) (w .top) (goalSexp g) bs
-  pub tight : w .goal .base + w .goal .count ≡ w .top
-  pub openly : length o ≡ w .parameters
-  pub hand : HandIn f room ds (w .supposed) (w .top) c
-
--- a sum that no packet makes too large for a machine word
-abbrev pub plus : ℕ → ℕ → ℕ
-plus a b = min (a + b) 18446744073709551615
-
--- the spot of a part of what stands at a spot, n bytes further on
-abbrev pub further : Spot → ℕ → Spot
-further x n = record { source = x .source; at = plus (x .at) n; base = x .base; count = x .count }
-
--- the place of a part of the goal, with the same clauses, parameters and bindings
-abbrev pub within : Where → ℕ → Where
-within w n = record { goal = further (w .goal) n; supposed = w .supposed; parameters = w .parameters; top = w .top }
-
--- the same with one variable more, which is on top of the stack
-abbrev pub bound : Where → ℕ → ℕ → Where
-bound w n p = record {
-  goal = record { source = w .goal .source; at = plus (w .goal .at) n; base = w .goal .base; count = plus (w .goal .count) 1 };
-  supposed = w .supposed;
-  parameters = p;
-  top = plus (w .top) 1;
-}
 
 -- what the checker's definition says, in offsets of the strip file
 abbrev pub outcome : ℕ → Strip → Judged → Outcome
@@ -180,6 +111,3 @@ Judging f ss room after at w nest r =
     (ds : List (Clause Plain)) (us : List Term) (P : Strip) (o : List Plain) (c : Hand Plain) (bs : Bindings) (g : Goal Plain) →
     Ready f ss room ds us w at nest P o c bs g →
     Judges room after w at P (check (listed us) P o c bs g) r
-
-abbrev pub filesOf : List ℕ → List ℕ → List ℕ → Files
-filesOf rs gs ts = record { rules = rs; goal = gs; terms = ts }

@@ -1,19 +1,11 @@
 // The walk down the strip: each node judged at its own place, then its parts at theirs (document 01, "When a strip fits").
-use room::Spot;
+use room::Where;
 ghost use mathlib.Core.Path.{_≡_};
 ghost use mathlib.Core.List.{List};
 ghost use Prim.Native.Nat.{ℕ, _+_, _≤_, _<_, max};
 ghost use lib.ListN.{length};
 ghost use Rattle.judge.specs.Walk.{Entering, Judging, Bounded, filesOf};
 ghost use Rattle.judge.specs.declared.node.Outcome.{Outcome};
-
-// A place: the spot of its goal, how many clauses are supposed, how many parameters are open, and where the room is free.
-pub struct Where {
-    goal: Spot,
-    supposed: usize,
-    parameters: usize,
-    top: usize,
-}
 
 // What a node says at its own place: it does not fit; it fits and ends before an offset; it fits, and its part or parts begin at an offset, at these places.
 pub enum Entered {

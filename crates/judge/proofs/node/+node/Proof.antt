@@ -136,10 +136,12 @@ node-same-length-2 t c = search needs
 
 -- src/node.rt:93:1
 node-returns-3 : (t : ℕ) → node-lts.Need-returns-3 (enter-reads.Asked, enter-reads.Learnt, leaf-reads.Asked, leaf-reads.Learnt, node-below t, node.Post, close-reads.Asked, close-reads.Learnt, higher-reads.Asked, higher-reads.Learnt) (node-at t) node.Post
-node-returns-3 t c =
-    (c .leaf .ensures .0 (c .before .before .before .before .before .before .before .before .before .before .before .before .before .before .args .nest) (omega arith), λ ds us P o h bs g ready.
+node-returns-3 t c = (
+  c .leaf .ensures .0 (c .before .before .before .before .before .before .before .before .before .before .before .before .before .before .args .nest) (omega arith),
+  λ ds us P o h bs g ready.
       let (a, r) = leaf-node ready (enter-is (c .before .before .e .given .1) (c .before .before .before .before .before .before .enter .ensures ds us P o h bs g ready)) in
-      judges-is (sym (c .leaf .ensures .1 a (r .0))) (r .1))
+      judges-is (sym (c .leaf .ensures .1 a (r .0))) (r .1),
+)
 
 -- src/node.rt:93:1
 node-same-length-3 : (t : ℕ) → node-lts.Need-same-length-3 (enter-reads.Asked, enter-reads.Learnt, leaf-reads.Asked, leaf-reads.Learnt, node-below t, node.Post, close-reads.Asked, close-reads.Learnt, higher-reads.Asked, higher-reads.Learnt) (node-at t) node.Post
@@ -147,12 +149,14 @@ node-same-length-3 t c = search needs
 
 -- src/node.rt:93:1
 node-returns-4 : (t : ℕ) → node-lts.Need-returns-4 (enter-reads.Asked, enter-reads.Learnt, leaf-reads.Asked, leaf-reads.Learnt, node-below t, node.Post, close-reads.Asked, close-reads.Learnt, higher-reads.Asked, higher-reads.Learnt) (node-at t) node.Post
-node-returns-4 t c =
-    (tt, λ ds us P o h bs g ready.
+node-returns-4 t c = (
+  tt,
+  λ ds us P o h bs g ready.
       let e = enter-is (c .before .before .before .before .before .before .before .before .e2 .given .1) (c .before .before .before .before .before .before .before .before .before .before .before .before .enter .ensures ds us P o h bs g ready) in
       let p = e .told .2 in
       let i = c .before .before .before .before .before .node .ensures .1 ds us (e .told .0) (p .parameters) (p .clauses) (p .bindings) (p .goal) (part-ready ready (c .before .before .before .before .before .before .before .before .before .before .before .before .enter .kept .1 .1 .1 .1 .1 .0) (c .before .before .before .before .before .before .before .before .before .before .before .before .before .before .if1 .left) p) in
-      one-misfit ready e (judges-is (c .before .one .given .1) i))
+      one-misfit ready e (judges-is (c .before .one .given .1) i),
+)
 
 -- src/node.rt:93:1
 node-same-length-4 : (t : ℕ) → node-lts.Need-same-length-4 (enter-reads.Asked, enter-reads.Learnt, leaf-reads.Asked, leaf-reads.Learnt, node-below t, node.Post, close-reads.Asked, close-reads.Learnt, higher-reads.Asked, higher-reads.Learnt) (node-at t) node.Post
@@ -160,13 +164,15 @@ node-same-length-4 t c = search needs
 
 -- src/node.rt:93:1
 node-returns-5 : (t : ℕ) → node-lts.Need-returns-5 (enter-reads.Asked, enter-reads.Learnt, leaf-reads.Asked, leaf-reads.Learnt, node-below t, node.Post, close-reads.Asked, close-reads.Learnt, higher-reads.Asked, higher-reads.Learnt) (node-at t) node.Post
-node-returns-5 t c =
-    (c .close .ensures .0, λ ds us P o h bs g ready.
+node-returns-5 t c = (
+  c .close .ensures .0,
+  λ ds us P o h bs g ready.
       let e = enter-is (c .before .before .before .before .before .before .before .before .before .e2 .given .1) (c .before .before .before .before .before .before .before .before .before .before .before .before .before .enter .ensures ds us P o h bs g ready) in
       let p = e .told .2 in
       let i = c .before .before .before .before .before .before .node .ensures .1 ds us (e .told .0) (p .parameters) (p .clauses) (p .bindings) (p .goal) (part-ready ready (c .before .before .before .before .before .before .before .before .before .before .before .before .before .enter .kept .1 .1 .1 .1 .1 .0) (c .before .before .before .before .before .before .before .before .before .before .before .before .before .before .before .if1 .left) p) in
       let (a, r) = one-fits ready e (judges-is (c .before .before .one2 .given .1) i) (bounded-is _ _ _ (c .before .before .one2 .given .1) (c .before .before .before .before .before .before .node .ensures .0)) (c .before .before .before .before .before .before .before .before .before .before .before .before .before .before .before .if1 .left) in
-      judges-is (sym (c .close .ensures .1 a (r .0) (r .1 .0))) (r .1 .1))
+      judges-is (sym (c .close .ensures .1 a (r .0) (r .1 .0))) (r .1 .1),
+)
 
 -- src/node.rt:93:1
 node-same-length-5 : (t : ℕ) → node-lts.Need-same-length-5 (enter-reads.Asked, enter-reads.Learnt, leaf-reads.Asked, leaf-reads.Learnt, node-below t, node.Post, close-reads.Asked, close-reads.Learnt, higher-reads.Asked, higher-reads.Learnt) (node-at t) node.Post
@@ -174,12 +180,14 @@ node-same-length-5 t c = search needs
 
 -- src/node.rt:93:1
 node-returns-6 : (t : ℕ) → node-lts.Need-returns-6 (enter-reads.Asked, enter-reads.Learnt, leaf-reads.Asked, leaf-reads.Learnt, node-below t, node.Post, close-reads.Asked, close-reads.Learnt, higher-reads.Asked, higher-reads.Learnt) (node-at t) node.Post
-node-returns-6 t c =
-    (tt, λ ds us P o h bs g ready.
+node-returns-6 t c = (
+  tt,
+  λ ds us P o h bs g ready.
       let e = enter-is (c .before .before .before .before .before .before .before .before .e3 .given .1) (c .before .before .before .before .before .before .before .before .before .before .before .before .enter .ensures ds us P o h bs g ready) in
       let p = e .told .4 in
       let i = c .before .before .before .before .before .node2 .ensures .1 ds us (e .told .0) (p .parameters) (p .clauses) (p .bindings) (p .goal) (part-ready ready (c .before .before .before .before .before .before .before .before .before .before .before .before .enter .kept .1 .1 .1 .1 .1 .0) (c .before .before .before .before .before .before .before .before .before .before .before .before .before .before .if1 .left) p) in
-      two-first ready e (judges-is (c .before .one3 .given .1) i))
+      two-first ready e (judges-is (c .before .one3 .given .1) i),
+)
 
 -- src/node.rt:93:1
 node-same-length-6 : (t : ℕ) → node-lts.Need-same-length-6 (enter-reads.Asked, enter-reads.Learnt, leaf-reads.Asked, leaf-reads.Learnt, node-below t, node.Post, close-reads.Asked, close-reads.Learnt, higher-reads.Asked, higher-reads.Learnt) (node-at t) node.Post
@@ -187,14 +195,16 @@ node-same-length-6 t c = search needs
 
 -- src/node.rt:93:1
 node-returns-7 : (t : ℕ) → node-lts.Need-returns-7 (enter-reads.Asked, enter-reads.Learnt, leaf-reads.Asked, leaf-reads.Learnt, node-below t, node.Post, close-reads.Asked, close-reads.Learnt, higher-reads.Asked, higher-reads.Learnt) (node-at t) node.Post
-node-returns-7 t c =
-    (tt, λ ds us P o h bs g ready.
+node-returns-7 t c = (
+  tt,
+  λ ds us P o h bs g ready.
       let e = enter-is (c .before .before .before .before .before .before .before .before .before .before .before .before .before .before .before .e3 .given .1) (c .before .before .before .before .before .before .before .before .before .before .before .before .before .before .before .before .before .before .before .enter .ensures ds us P o h bs g ready) in
       let p = e .told .4 in
       let q = e .told .5 in
       let i = judges-is (c .before .before .before .before .before .before .before .before .one4 .given .1) (c .before .before .before .before .before .before .before .before .before .before .before .before .node2 .ensures .1 ds us (e .told .0) (p .parameters) (p .clauses) (p .bindings) (p .goal) (part-ready ready (c .before .before .before .before .before .before .before .before .before .before .before .before .before .before .before .before .before .before .before .enter .kept .1 .1 .1 .1 .1 .0) (c .before .before .before .before .before .before .before .before .before .before .before .before .before .before .before .before .before .before .before .before .before .if1 .left) p)) in
       let j = c .before .before .before .before .before .node3 .ensures .1 ds us (e .told .1) (q .parameters) (q .clauses) (q .bindings) (q .goal) (second-ready ready e i (c .before .before .before .before .before .before .before .before .before .before .before .before .node2 .kept .1 .1 .1 .1 .1 .0 ∙ c .before .before .before .before .before .before .before .before .before .before .before .before .before .before .before .before .before .before .before .enter .kept .1 .1 .1 .1 .1 .0) (c .before .before .before .before .before .before .before .before .before .before .before .before .before .before .before .before .before .before .before .before .before .if1 .left)) in
-      two-second ready e i (judges-is (c .before .two .given .1) j))
+      two-second ready e i (judges-is (c .before .two .given .1) j),
+)
 
 -- src/node.rt:93:1
 node-same-length-7 : (t : ℕ) → node-lts.Need-same-length-7 (enter-reads.Asked, enter-reads.Learnt, leaf-reads.Asked, leaf-reads.Learnt, node-below t, node.Post, close-reads.Asked, close-reads.Learnt, higher-reads.Asked, higher-reads.Learnt) (node-at t) node.Post
@@ -202,15 +212,17 @@ node-same-length-7 t c = c .before .before .before .before .before .before .befo
 
 -- src/node.rt:93:1
 node-returns-8 : (t : ℕ) → node-lts.Need-returns-8 (enter-reads.Asked, enter-reads.Learnt, leaf-reads.Asked, leaf-reads.Learnt, node-below t, node.Post, close-reads.Asked, close-reads.Learnt, higher-reads.Asked, higher-reads.Learnt) (node-at t) node.Post
-node-returns-8 t c =
-    (c .close2 .ensures .0, λ ds us P o h bs g ready.
+node-returns-8 t c = (
+  c .close2 .ensures .0,
+  λ ds us P o h bs g ready.
       let e = enter-is (c .before .before .before .before .before .before .before .before .before .before .before .before .before .before .before .before .before .e3 .given .1) (c .before .before .before .before .before .before .before .before .before .before .before .before .before .before .before .before .before .before .before .before .before .enter .ensures ds us P o h bs g ready) in
       let p = e .told .4 in
       let q = e .told .5 in
       let i = judges-is (c .before .before .before .before .before .before .before .before .before .before .one4 .given .1) (c .before .before .before .before .before .before .before .before .before .before .before .before .before .before .node2 .ensures .1 ds us (e .told .0) (p .parameters) (p .clauses) (p .bindings) (p .goal) (part-ready ready (c .before .before .before .before .before .before .before .before .before .before .before .before .before .before .before .before .before .before .before .before .before .enter .kept .1 .1 .1 .1 .1 .0) (c .before .before .before .before .before .before .before .before .before .before .before .before .before .before .before .before .before .before .before .before .before .before .before .if1 .left) p)) in
       let j = judges-is (c .before .before .before .two2 .given .1) (c .before .before .before .before .before .before .before .node3 .ensures .1 ds us (e .told .1) (q .parameters) (q .clauses) (q .bindings) (q .goal) (second-ready ready e i (c .before .before .before .before .before .before .before .before .before .before .before .before .before .before .node2 .kept .1 .1 .1 .1 .1 .0 ∙ c .before .before .before .before .before .before .before .before .before .before .before .before .before .before .before .before .before .before .before .before .before .enter .kept .1 .1 .1 .1 .1 .0) (c .before .before .before .before .before .before .before .before .before .before .before .before .before .before .before .before .before .before .before .before .before .before .before .if1 .left))) in
       let (a, r) = two-fit ready e i j (bounded-is _ _ _ (c .before .before .before .before .before .before .before .before .before .before .one4 .given .1) (c .before .before .before .before .before .before .before .before .before .before .before .before .before .before .node2 .ensures .0)) (bounded-is _ _ _ (c .before .before .before .two2 .given .1) (c .before .before .before .before .before .before .before .node3 .ensures .0)) (c .before .before .before .before .before .before .before .before .before .before .before .before .before .before .before .before .before .before .before .before .before .before .before .if1 .left) (c .before .higher .result) (c .before .higher .ensures) in
-      judges-is (sym (c .close2 .ensures .1 a (r .0) (r .1 .0))) (r .1 .1))
+      judges-is (sym (c .close2 .ensures .1 a (r .0) (r .1 .0))) (r .1 .1),
+)
 
 pub +node-spec : {M : Type 1} → statement M
 +node-spec = close μ-node λ t. node-lts.spec (enter-reads.Asked, enter-reads.Learnt, leaf-reads.Asked, leaf-reads.Learnt, node-below t, node.Post, close-reads.Asked, close-reads.Learnt, higher-reads.Asked, higher-reads.Learnt)
