@@ -10,7 +10,7 @@ use Rattle.basics.specs.Choice.{maybe}
 use Rattle.basics.specs.Text.{octets}
 use Rattle.harrop.specs.Formula.{Term, Goal, Clause, Strip}
 use Rattle.harrop.specs.Bindings.{Bindings}
-use Rattle.harrop.specs.Place.{AtHand, Hand, Plain, listed}
+use Rattle.harrop.specs.Place.{Hand, Plain, listed, allowed}
 use Rattle.harrop.specs.Views.{asTop, asAnd, asOr, asSome, asAll, asImp}
 use Rattle.harrop.specs.Check.{Judged, Position, here, above, aboveBoth, check}
 use Rattle.sexp.specs.Sexp.{Sexp, Sexps, Stands, StandsAll, spell, spells, nesting}
@@ -22,15 +22,21 @@ use Rattle.packet.specs.Offset.{width, offsetOf}
 use Rattle.packet.specs.File.{mostBytes}
 use Rattle.packet.specs.declared.Word.{Word}
 use Rattle.packet.specs.declared.Word.the-variants as W
-use Rattle.room.specs.Layout.{words, levels, supposedWord, stack, Enough}
-use Rattle.room.specs.Spot.{fileOf, bindingsAt}
+use Rattle.room.specs.Layout.{words, levels, supposedAtMost, Enough}
+use Rattle.room.specs.Spot.{supposing}
 use Rattle.room.specs.declared.Source.{Source}
 use Rattle.room.specs.declared.Source.the-variants as S
 use Rattle.room.specs.declared.Spot.{Spot}
 use Rattle.judge.specs.Heads.{stripWord, goalWord}
-use Rattle.judge.specs.Walk.{Files, Live, Kept, Framed, HandIn, Booked, Means, Ready, Part, Told, Enters, plus, further, within, bound}
+use Rattle.judge.specs.Walk.{Files, Live, Kept, Framed, HandIn, Booked, Means, Ready, Part, Told, Enters, plus, further, within, bound, supposes}
 use Rattle.room.specs.declared.Where.{Where}
-use Rattle.room.proofs.WhereLaws.{file-small, plus-inside, file, part-means, push-keeps}
+use Rattle.room.proofs.WhereLaws.{file, part-means, push-keeps}
+use Rattle.room.proofs.MoveLaws.{bound-means, suppose-keeps, supposes-means}
+use Rattle.room.specs.Frame.{bindingWord, held}
+use Rattle.harrop.specs.declared.Binding.the-variants.{Candidate, Parameter}
+use Rattle.harrop.proofs.PlaceLaws.{allowed-may, may-below}
+use Rattle.judge.proofs.WalkLaws.{strip-nests}
+use mathlib.Core.Bool.{Bool, true}
 use Rattle.judge.specs.declared.node.Entered.{Entered}
 use Rattle.judge.specs.declared.node.Entered.the-variants as E
 use Rattle.judge.proofs.HeadLaws.{after-word, word-width, shape-is, not-top, not-and, not-or, not-some, not-all, not-imp, node-shape}
@@ -129,5 +135,108 @@ module _ {f : Files} {ss room : List ℕ} {ds : List (Clause Plain)} {us : List 
           omega arith,
           refl,
           omega (arith, two-width (octets "and") (heads .1 .0) (stripSexp X) (stripSexp Y)),
+        );
+      }
+
+  -- enough of the room for one word more, and for one clause
+  roomy : {P : Strip} {g : Goal Plain} → Ready f ss room ds us w at nest P o c bs g → (w .top < length room) × ((w .top ≤ words) × (w .supposed ≤ supposedAtMost))
+  roomy {P} r = let z = strip-nests P in (omega (arith, r .nests, r .enough .bindings, r .long), (omega (arith, r .nests, r .enough .bindings), omega (arith, r .nests, r .enough .supposed)))
+
+  pub some-fits : {X : Strip} {i start : ℕ} {q : Plain} {a : Goal Plain} → Ready f ss room ds us w at nest (Strip.some i X) o c bs (Goal.some q a) → allowed (listed us) o q i ≡ true → start ≡ at + (7 + width (number i)) → Enters f ss room (set room (w .top) (held (bindingWord (Candidate i)))) ds us w at (Strip.some i X) (check (listed us) (Strip.some i X) o c bs (Goal.some q a)) (E.One start (bound w 7 (w .parameters)))
+  some-fits {X} {i} {start} {q} {a} r ok e =
+      let (inside, rest) = roomy r in
+      let b = may-below (listed us) o q i (allowed-may (listed us) o q i ok) in
+      let few = r .place .booked .candidates .few in
+      let here′ = r .place in
+      record {
+        kept = push-keeps room (w .supposed) (w .top) (held (bindingWord (Candidate i))) (rest .1) (omega (arith, here′ .framed .above, here′ .tight));
+        told = (
+          X,
+          check (listed us) X o c (Candidate i ∷ bs) a,
+          record {
+            goal = a;
+            parameters = o;
+            clauses = c;
+            bindings = Candidate i ∷ bs;
+            place = bound-means here′ (Candidate i) 7 (w .parameters) o a (first-part (octets "some") (heads .1 .1 .1 .1 .1 .0) (here′ .framed .stands)) (omega arith) (omega arith) inside (rest .0) (rest .1) (here′ .openly);
+            stands = subst (λ (j : ℕ). Stands ss j (stripSexp X)) (sym e) (second-part (octets "some") (heads .1 .1 .1 .1 .1 .0) (r .stands));
+            shallower = omega arith;
+            later = omega arith;
+            supposes = omega arith;
+            supposes-one = omega arith;
+            opens-one = omega arith;
+            higher = omega arith;
+            room-left = omega arith;
+            says = refl;
+            offsets = λ pos. omega arith;
+          },
+          rw ok refl,
+          omega (arith, two-width (octets "some") (heads .1 .1 .1 .1 .1 .0) (number i) (stripSexp X)),
+        );
+      }
+
+  pub all-fits : {X : Strip} {q : Plain} {a : Goal Plain} → Ready f ss room ds us w at nest (Strip.all X) o c bs (Goal.all q a) → Enters f ss room (set room (w .top) (held (bindingWord (Parameter (w .parameters + 1))))) ds us w at (Strip.all X) (check (listed us) (Strip.all X) o c bs (Goal.all q a)) (E.One (at + 6) (bound w 6 (w .parameters + 1)))
+  all-fits {X} {q} {a} r =
+      let (inside, rest) = roomy r in
+      let here′ = r .place in
+      let z = strip-nests (Strip.all X) in
+      let n : w .parameters + 1 ≡ suc (length o) = omega (arith, here′ .openly) in
+      record {
+        kept = push-keeps room (w .supposed) (w .top) (held (bindingWord (Parameter (w .parameters + 1)))) (rest .1) (omega (arith, here′ .framed .above, here′ .tight));
+        told = (
+          X,
+          check (listed us) X (q ∷ o) c (Parameter (suc (length o)) ∷ bs) a,
+          record {
+            goal = a;
+            parameters = q ∷ o;
+            clauses = c;
+            bindings = Parameter (suc (length o)) ∷ bs;
+            place = subst (λ (k : ℕ). Means f (set room (w .top) (held (bindingWord (Parameter (w .parameters + 1))))) ds us (bound w 6 (w .parameters + 1)) (q ∷ o) c (Parameter k ∷ bs) a) n (bound-means here′ (Parameter (w .parameters + 1)) 6 (w .parameters + 1) (q ∷ o) a (first-part (octets "all") (heads .1 .1 .1 .1 .1 .1 .0) (here′ .framed .stands)) (omega arith) (omega (arith, r .enough .opened)) inside (rest .0) (rest .1) (sym n));
+            stands = first-part (octets "all") (heads .1 .1 .1 .1 .1 .1 .0) (r .stands);
+            shallower = omega arith;
+            later = omega arith;
+            supposes = omega arith;
+            supposes-one = omega arith;
+            opens-one = omega arith;
+            higher = omega arith;
+            room-left = omega arith;
+            says = refl;
+            offsets = λ pos. omega arith;
+          },
+          refl,
+          omega (arith, one-width (octets "all") (heads .1 .1 .1 .1 .1 .1 .0) (stripSexp X)),
+        );
+      }
+
+  pub imp-fits : {X : Strip} {d : Clause Plain} {a : Goal Plain} {n : ℕ} → Ready f ss room ds us w at nest (Strip.imp X) o c bs (Goal.imp d a) → n ≡ 6 + width (clauseSexp d) → Enters f ss room (supposing room (w .supposed) (further (w .goal) 6)) ds us w at (Strip.imp X) (check (listed us) (Strip.imp X) o c bs (Goal.imp d a)) (E.One (at + 6) (supposes w n))
+  imp-fits {X} {d} {a} {n} r e =
+      let (inside, rest) = roomy r in
+      let here′ = r .place in
+      let z = strip-nests X in
+      let few : w .supposed < supposedAtMost = omega (arith, r .nests, r .enough .supposed) in
+      record {
+        kept = suppose-keeps room (w .supposed) (w .top) (further (w .goal) 6) few;
+        told = (
+          X,
+          check (listed us) X o (c ++ (record { clause = d; bindings = bs } ∷ [])) bs a,
+          record {
+            goal = a;
+            parameters = o;
+            clauses = c ++ (record { clause = d; bindings = bs } ∷ []);
+            bindings = bs;
+            place = supposes-means here′ 6 n d a (first-part (octets "imp") (heads .1 .1 .1 .1 .1 .1 .1 .0) (here′ .framed .stands)) (omega arith) (subst (λ (i : ℕ). Stands (file here′) (w .goal .at + i) (goalSexp a)) (sym e) (second-part (octets "imp") (heads .1 .1 .1 .1 .1 .1 .1 .0) (here′ .framed .stands))) (omega arith) few (rest .0) (r .long);
+            stands = first-part (octets "imp") (heads .1 .1 .1 .1 .1 .1 .1 .0) (r .stands);
+            shallower = omega arith;
+            later = omega arith;
+            supposes = omega arith;
+            supposes-one = omega arith;
+            opens-one = omega arith;
+            higher = omega arith;
+            room-left = omega arith;
+            says = refl;
+            offsets = λ pos. omega arith;
+          },
+          refl,
+          omega (arith, one-width (octets "imp") (heads .1 .1 .1 .1 .1 .1 .1 .0) (stripSexp X)),
         );
       }

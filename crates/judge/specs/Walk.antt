@@ -14,7 +14,7 @@ use Rattle.packet.specs.Written.{goalSexp, clauseSexp, stripSexp}
 use Rattle.packet.specs.Offset.{width, offsetOf}
 use Rattle.packet.specs.File.{mostBytes}
 use Rattle.room.specs.Layout.{words, levels, Enough}
-pub use Rattle.room.specs.Where.{Files, Live, Kept, Framed, HandIn, Booked, Means, filesOf, plus, further, within, bound}
+pub use Rattle.room.specs.Where.{Files, Live, Kept, Framed, HandIn, Booked, Means, filesOf, plus, further, within, bound, supposes}
 use Rattle.room.specs.declared.Where.{Where}
 use Rattle.packet.specs.declared.Word.{Word}
 use Rattle.judge.specs.Heads.{stripWord}
