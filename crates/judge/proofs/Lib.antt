@@ -1,3 +1,4 @@
+pub mod EnterLaws
 pub mod HeadLaws
 pub mod NodeLaws
 pub mod WalkLaws

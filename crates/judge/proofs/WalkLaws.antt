@@ -117,6 +117,7 @@ module _ {f : Files} {ss : List ℕ} {ds : List (Clause Plain)} {us : List Term}
     part-ready l z p =
         record {
           place = p .place;
+          small = ready .small;
           stands = p .stands;
           nests = omega (arith, p .shallower, ready .nests);
           enough =
@@ -170,6 +171,7 @@ module _ {f : Files} {ss : List ℕ} {ds : List (Clause Plain)} {us : List Term}
         let a = fits-at start X k mid h n (d .answer ∙ ap (outcome start X) (sym (p .says))) in
         record {
           place = means-kept (kept-less after last s t (d .kept)) (q .place);
+          small = ready .small;
           stands = subst (λ (i : ℕ). Stands ss i (stripSexp Y)) (sym a) (q .stands);
           nests = omega (arith, q .shallower, ready .nests);
           enough =

@@ -76,6 +76,7 @@ Told f ss room ds us w at P j (E.Two start w′ w″) =
 -- what is given where a node is judged: the place, the strip's node, and enough of the room
 pub record Ready (f : Files) (ss room : List ℕ) (ds : List (Clause Plain)) (us : List Term) (w : Where) (at nest : ℕ) (P : Strip) (o : List Plain) (c : Hand Plain) (bs : Bindings) (g : Goal Plain) : Type 0 where
   pub place : Means f room ds us w o c bs g
+  pub small : length ss ≤ mostBytes
   pub stands : Stands ss at (stripSexp P)
   pub nests : nesting (stripSexp P) ≤ nest
   pub enough : Enough (w .top) (w .supposed) (w .parameters) nest

@@ -1,2 +1,3 @@
 // trial
+mod enter;
 mod node;

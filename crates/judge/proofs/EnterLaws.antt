@@ -1,0 +1,149 @@
+-- From what the code reads of a goal at its spot (its word, and where its first part ends) to what a node says there.
+use Prim.Native.Nat.{ℕ, suc, _+_, _≤_, _<_, min}
+use native.Mathlib.Omega.{arith}
+use mathlib.Core.Path.{_≡_, refl, sym, _∙_, ap, subst}
+use mathlib.Core.List.{List, [], _∷_}
+use mathlib.Core.Option.{Option, none, some}
+use lib.ListN.{length, drop, set}
+use Rattle.basics.specs.Choice.{maybe}
+use Rattle.harrop.specs.Formula.{Term, Goal, Clause, Strip}
+use Rattle.harrop.specs.Bindings.{Bindings}
+use Rattle.harrop.specs.Place.{Hand, Plain, listed}
+use Rattle.harrop.specs.Views.{asTop, asAnd, asOr, asSome, asAll, asImp}
+use Rattle.harrop.specs.Check.{Judged, here, check}
+use Rattle.harrop.specs.declared.Binding.the-variants.{Parameter}
+use Rattle.sexp.specs.Sexp.{Sexp, Stands, nesting}
+use Rattle.sexp.specs.Past.{PastAt, Ends}
+use Rattle.sexp.specs.declared.skip.After.{After}
+use Rattle.sexp.specs.declared.skip.After.the-variants as after′
+use Rattle.sexp.proofs.StandLaws.{stands-inside}
+use Rattle.sexp.proofs.FoundLaws.{ends-here}
+use Rattle.packet.specs.Table.{rank}
+use Rattle.packet.specs.WordAt.{WordAt}
+use Rattle.packet.specs.Written.{goalSexp, clauseSexp, stripSexp}
+use Rattle.packet.specs.Offset.{width}
+use Rattle.packet.specs.declared.Word.{Word}
+use Rattle.packet.specs.declared.Word.the-variants as W
+use Rattle.room.specs.Frame.{bindingWord, held}
+use Rattle.room.specs.Spot.{supposing}
+use Rattle.room.specs.declared.Where.{Where}
+use Rattle.room.proofs.WhereLaws.{file}
+use Rattle.judge.specs.Heads.{stripWord, goalWord, NodeShape, GoalShape}
+use Rattle.judge.specs.Walk.{Files, Framed, Means, Ready, Enters, plus, further, within, bound, supposes}
+use Rattle.judge.specs.declared.node.Entered.{Entered}
+use Rattle.judge.specs.declared.node.Entered.the-variants as E
+use Rattle.judge.proofs.HeadLaws.{part-stands, goal-says, node-shape, shape-is, rank-once, not-top, not-and, not-or, not-some, not-all, not-imp}
+use Rattle.judge.proofs.WalkLaws.{enter-is, strip-nests}
+use Rattle.basics.specs.Text.{octets}
+use Rattle.judge.proofs.NodeLaws.{heads, first-part, top-fits, and-fits, left-fits, right-fits, all-fits, imp-fits, enters-misfit}
+
+-- what a node is, where its word is known
+pub node-is : (P : Strip) {v : Word} → stripWord P ≡ v → NodeShape v P
+node-is P e = subst (λ (v : Word). NodeShape v P) e (node-shape P)
+
+-- equal parts, equal answers
+pub one-alike : {a b : ℕ} {x y : Where} → a ≡ b → x ≡ y → E.One a x ≡ E.One b y
+one-alike p q = cc
+
+pub two-alike : {a b : ℕ} {x y x′ y′ : Where} → a ≡ b → x ≡ y → x′ ≡ y′ → E.Two a x x′ ≡ E.Two b y y′
+two-alike p q r = cc
+
+-- what is said of a room and an answer is said of equal ones
+pub says-as : {f : Files} {ss room after after′ : List ℕ} {ds : List (Clause Plain)} {us : List Term} {w : Where} {at : ℕ} {P : Strip} {j : Judged} {r e : Entered} → after ≡ after′ → r ≡ e → Enters f ss room after′ ds us w at P j e → Enters f ss room after ds us w at P j r
+says-as {f} {ss} {room} {after} {after′} {ds} {us} {w} {at} {P} {j} {r} {e} p q x = subst (λ (y : List ℕ). Enters f ss room y ds us w at P j r) (sym p) (enter-is (sym q) x)
+
+module _ {f : Files} {ss room : List ℕ} {ds : List (Clause Plain)} {us : List Term} {w : Where} {at nest : ℕ} {o : List Plain} {c : Hand Plain} {bs : Bindings} where
+  -- an answer for the node and the goal that are known to be there
+  pub as-known : {after : List ℕ} {P P₀ : Strip} {g g₀ : Goal Plain} {r : Entered} → P ≡ P₀ → g ≡ g₀ → (Ready f ss room ds us w at nest P₀ o c bs g₀ → Enters f ss room after ds us w at P₀ (check (listed us) P₀ o c bs g₀) r) → Ready f ss room ds us w at nest P o c bs g → Enters f ss room after ds us w at P (check (listed us) P o c bs g) r
+  as-known {after} {P} {P₀} {g} {g₀} {r} e d k x =
+      subst (λ (y : Goal Plain). Enters f ss room after ds us w at P (check (listed us) P o c bs y) r) (sym d)
+      (subst (λ (Y : Strip). Enters f ss room after ds us w at Y (check (listed us) Y o c bs g₀) r) (sym e) (k (subst (λ (y : Goal Plain). Ready f ss room ds us w at nest P₀ o c bs y) d (subst (λ (Y : Strip). Ready f ss room ds us w at nest Y o c bs g) e x))))
+
+  -- the word that was read is the goal's
+  pub word-read : {P : Strip} {g : Goal Plain} {v : Word} (x : Ready f ss room ds us w at nest P o c bs g) → WordAt (drop (w .goal .at) (file (x .place))) 1 v → v ≡ goalWord g
+  word-read {g = g} {v} x a = goal-says (drop (w .goal .at) (file (x .place))) 0 g v (part-stands (x .place .framed .stands)) a
+
+  -- the goal has another word: the node does not fit
+  pub misfit-known : {P P₀ : Strip} {g : Goal Plain} → Ready f ss room ds us w at nest P o c bs g → P ≡ P₀ → check (listed us) P₀ o c bs g ≡ here → Enters f ss room room ds us w at P (check (listed us) P o c bs g) E.Misfit
+  misfit-known {P} {P₀} {g} x e h = subst (λ (Y : Strip). Enters f ss room room ds us w at Y (check (listed us) Y o c bs g) E.Misfit) (sym e) (enters-misfit h)
+
+  -- a sum of offsets in the strip is exact
+  pub strip-plus : {P : Strip} {g : Goal Plain} (k : ℕ) → Ready f ss room ds us w at nest P o c bs g → k ≤ 16384 → plus at k ≡ at + k
+  strip-plus k x l = let i = stands-inside (x .stands) in omega (arith, x .small)
+
+  pub top-other : {P : Strip} {g : Goal Plain} {v : Word} → stripWord P ≡ W.Top → (x : Ready f ss room ds us w at nest P o c bs g) → WordAt (drop (w .goal .at) (file (x .place))) 1 v → (rank v ≡ rank W.Top → ⊥) → Enters f ss room room ds us w at P (check (listed us) P o c bs g) E.Misfit
+  top-other {P} {g} q x a n = misfit-known x (node-is P q) (rw (not-top g (λ e. n (ap rank (word-read x a) ∙ e))) refl)
+
+  pub and-other : {P : Strip} {g : Goal Plain} {v : Word} → stripWord P ≡ W.And → (x : Ready f ss room ds us w at nest P o c bs g) → WordAt (drop (w .goal .at) (file (x .place))) 1 v → (rank v ≡ rank W.And → ⊥) → Enters f ss room room ds us w at P (check (listed us) P o c bs g) E.Misfit
+  and-other {P} {g} q x a n = misfit-known x (node-is P q .2) (rw (not-and g (λ e. n (ap rank (word-read x a) ∙ e))) refl)
+
+  pub left-other : {P : Strip} {g : Goal Plain} {v : Word} → stripWord P ≡ W.Left → (x : Ready f ss room ds us w at nest P o c bs g) → WordAt (drop (w .goal .at) (file (x .place))) 1 v → (rank v ≡ rank W.Or → ⊥) → Enters f ss room room ds us w at P (check (listed us) P o c bs g) E.Misfit
+  left-other {P} {g} q x a n = misfit-known x (node-is P q .1) (rw (not-or g (λ e. n (ap rank (word-read x a) ∙ e))) refl)
+
+  pub right-other : {P : Strip} {g : Goal Plain} {v : Word} → stripWord P ≡ W.Right → (x : Ready f ss room ds us w at nest P o c bs g) → WordAt (drop (w .goal .at) (file (x .place))) 1 v → (rank v ≡ rank W.Or → ⊥) → Enters f ss room room ds us w at P (check (listed us) P o c bs g) E.Misfit
+  right-other {P} {g} q x a n = misfit-known x (node-is P q .1) (rw (not-or g (λ e. n (ap rank (word-read x a) ∙ e))) refl)
+
+  pub all-other : {P : Strip} {g : Goal Plain} {v : Word} → stripWord P ≡ W.All → (x : Ready f ss room ds us w at nest P o c bs g) → WordAt (drop (w .goal .at) (file (x .place))) 1 v → (rank v ≡ rank W.All → ⊥) → Enters f ss room room ds us w at P (check (listed us) P o c bs g) E.Misfit
+  all-other {P} {g} q x a n = misfit-known x (node-is P q .1) (rw (not-all g (λ e. n (ap rank (word-read x a) ∙ e))) refl)
+
+  pub imp-other : {P : Strip} {g : Goal Plain} {v : Word} → stripWord P ≡ W.Imp → (x : Ready f ss room ds us w at nest P o c bs g) → WordAt (drop (w .goal .at) (file (x .place))) 1 v → (rank v ≡ rank W.Imp → ⊥) → Enters f ss room room ds us w at P (check (listed us) P o c bs g) E.Misfit
+  imp-other {P} {g} q x a n = misfit-known x (node-is P q .1) (rw (not-imp g (λ e. n (ap rank (word-read x a) ∙ e))) refl)
+
+  pub top-same : {P : Strip} {g : Goal Plain} {v : Word} → stripWord P ≡ W.Top → (x : Ready f ss room ds us w at nest P o c bs g) → WordAt (drop (w .goal .at) (file (x .place))) 1 v → rank v ≡ rank W.Top → Enters f ss room room ds us w at P (check (listed us) P o c bs g) (E.Leaf (plus at 7))
+  top-same {P} {g} {v} q x a n = enter-is (ap E.Leaf (sym (strip-plus 7 x (omega arith)))) (as-known (node-is P q) (shape-is g (sym (word-read x a) ∙ rank-once v W.Top n)) (λ y. top-fits y) x)
+
+  pub left-same : {P : Strip} {g : Goal Plain} {v : Word} → stripWord P ≡ W.Left → (x : Ready f ss room ds us w at nest P o c bs g) → WordAt (drop (w .goal .at) (file (x .place))) 1 v → rank v ≡ rank W.Or → Enters f ss room room ds us w at P (check (listed us) P o c bs g) (E.One (plus at 7) (within w 5))
+  left-same {P} {g} {v} q x a n =
+      let k = shape-is g (sym (word-read x a) ∙ rank-once v W.Or n) in
+      enter-is (ap (λ (i : ℕ). E.One i (within w 5)) (sym (strip-plus 7 x (omega arith)))) (as-known (node-is P q .1) (k .2) (λ y. left-fits y) x)
+
+  pub all-same : {P : Strip} {g : Goal Plain} {v : Word} → stripWord P ≡ W.All → (x : Ready f ss room ds us w at nest P o c bs g) → WordAt (drop (w .goal .at) (file (x .place))) 1 v → rank v ≡ rank W.All → Enters f ss room (set room (w .top) (held (bindingWord (Parameter (w .parameters + 1))))) ds us w at P (check (listed us) P o c bs g) (E.One (plus at 6) (bound w 6 (w .parameters + 1)))
+  all-same {P} {g} {v} q x a n =
+      let k = shape-is g (sym (word-read x a) ∙ rank-once v W.All n) in
+      enter-is (ap (λ (i : ℕ). E.One i (bound w 6 (w .parameters + 1))) (sym (strip-plus 6 x (omega arith)))) (as-known (node-is P q .1) (k .2) (λ y. all-fits y) x)
+
+  pub and-same : {P : Strip} {g : Goal Plain} {v : Word} {m : ℕ} → stripWord P ≡ W.And → (x : Ready f ss room ds us w at nest P o c bs g) → WordAt (drop (w .goal .at) (file (x .place))) 1 v → rank v ≡ rank W.And → Ends (drop (w .goal .at) (file (x .place))) 6 64 m → Enters f ss room room ds us w at P (check (listed us) P o c bs g) (E.Two (plus at 6) (within w 6) (within w m))
+  and-same {P} {g} {v} {m} q x a n ends =
+      let k = shape-is g (sym (word-read x a) ∙ rank-once v W.And n) in
+      let y = subst (λ (h : Goal Plain). Stands (file (x .place)) (w .goal .at) (goalSexp h)) (k .2) (x .place .framed .stands) in
+      let e = ends-here (first-part (octets "and") (heads .1 .0) (part-stands y)) ends in
+      enter-is (ap (λ (i : ℕ). E.Two i (within w 6) (within w m)) (sym (strip-plus 6 x (omega arith)))) (as-known (node-is P q .2) (k .2) (λ z. and-fits z e) x)
+
+  pub right-same : {P : Strip} {g : Goal Plain} {v : Word} {m : ℕ} → stripWord P ≡ W.Right → (x : Ready f ss room ds us w at nest P o c bs g) → WordAt (drop (w .goal .at) (file (x .place))) 1 v → rank v ≡ rank W.Or → Ends (drop (w .goal .at) (file (x .place))) 5 64 m → Enters f ss room room ds us w at P (check (listed us) P o c bs g) (E.One (plus at 8) (within w m))
+  right-same {P} {g} {v} {m} q x a n ends =
+      let k = shape-is g (sym (word-read x a) ∙ rank-once v W.Or n) in
+      let y = subst (λ (h : Goal Plain). Stands (file (x .place)) (w .goal .at) (goalSexp h)) (k .2) (x .place .framed .stands) in
+      let e = ends-here (first-part (octets "or") (heads .1 .1 .0) (part-stands y)) ends in
+      enter-is (ap (λ (i : ℕ). E.One i (within w m)) (sym (strip-plus 8 x (omega arith)))) (as-known (node-is P q .1) (k .2) (λ z. right-fits z e) x)
+
+  pub imp-same : {P : Strip} {g : Goal Plain} {v : Word} {m : ℕ} → stripWord P ≡ W.Imp → (x : Ready f ss room ds us w at nest P o c bs g) → WordAt (drop (w .goal .at) (file (x .place))) 1 v → rank v ≡ rank W.Imp → Ends (drop (w .goal .at) (file (x .place))) 6 64 m → Enters f ss room (supposing room (w .supposed) (further (w .goal) 6)) ds us w at P (check (listed us) P o c bs g) (E.One (plus at 6) (supposes w m))
+  imp-same {P} {g} {v} {m} q x a n ends =
+      let k = shape-is g (sym (word-read x a) ∙ rank-once v W.Imp n) in
+      let y = subst (λ (h : Goal Plain). Stands (file (x .place)) (w .goal .at) (goalSexp h)) (k .2) (x .place .framed .stands) in
+      let e = ends-here (first-part (octets "imp") (heads .1 .1 .1 .1 .1 .1 .1 .0) (part-stands y)) ends in
+      enter-is (ap (λ (i : ℕ). E.One i (supposes w m)) (sym (strip-plus 6 x (omega arith)))) (as-known (node-is P q .1) (k .2) (λ z. imp-fits z e) x)
+
+  -- the first part is always there
+  pub and-never : {P : Strip} {g : Goal Plain} {v : Word} → stripWord P ≡ W.And → (x : Ready f ss room ds us w at nest P o c bs g) → WordAt (drop (w .goal .at) (file (x .place))) 1 v → rank v ≡ rank W.And → ((e : Sexp) → Stands (drop (w .goal .at) (file (x .place))) 6 e → nesting e ≤ 64 → ⊥) → ⊥
+  and-never {P} {g} {v} q x a n never =
+      let k = shape-is g (sym (word-read x a) ∙ rank-once v W.And n) in
+      let y = subst (λ (h : Goal Plain). Framed f room (w .goal) (w .top) (goalSexp h) bs) (k .2) (x .place .framed) in
+      never _ (first-part (octets "and") (heads .1 .0) (part-stands (y .stands))) (omega (arith, y .shallow))
+
+  -- the first part is always there
+  pub right-never : {P : Strip} {g : Goal Plain} {v : Word} → stripWord P ≡ W.Right → (x : Ready f ss room ds us w at nest P o c bs g) → WordAt (drop (w .goal .at) (file (x .place))) 1 v → rank v ≡ rank W.Or → ((e : Sexp) → Stands (drop (w .goal .at) (file (x .place))) 5 e → nesting e ≤ 64 → ⊥) → ⊥
+  right-never {P} {g} {v} q x a n never =
+      let k = shape-is g (sym (word-read x a) ∙ rank-once v W.Or n) in
+      let y = subst (λ (h : Goal Plain). Framed f room (w .goal) (w .top) (goalSexp h) bs) (k .2) (x .place .framed) in
+      never _ (first-part (octets "or") (heads .1 .1 .0) (part-stands (y .stands))) (omega (arith, y .shallow))
+
+  -- the first part is always there
+  pub imp-never : {P : Strip} {g : Goal Plain} {v : Word} → stripWord P ≡ W.Imp → (x : Ready f ss room ds us w at nest P o c bs g) → WordAt (drop (w .goal .at) (file (x .place))) 1 v → rank v ≡ rank W.Imp → ((e : Sexp) → Stands (drop (w .goal .at) (file (x .place))) 6 e → nesting e ≤ 64 → ⊥) → ⊥
+  imp-never {P} {g} {v} q x a n never =
+      let k = shape-is g (sym (word-read x a) ∙ rank-once v W.Imp n) in
+      let y = subst (λ (h : Goal Plain). Framed f room (w .goal) (w .top) (goalSexp h) bs) (k .2) (x .place .framed) in
+      never _ (first-part (octets "imp") (heads .1 .1 .1 .1 .1 .1 .1 .0) (part-stands (y .stands))) (omega (arith, y .shallow))
+
+  -- there is always room for one parameter more
+  pub all-never : {P : Strip} {g : Goal Plain} → Ready f ss room ds us w at nest P o c bs g → 64 ≤ w .parameters → ⊥
+  all-never {P} x l = let z = strip-nests P in omega (arith, x .nests, x .enough .opened)
