@@ -6,7 +6,7 @@ use mathlib.Core.List.{List, [], _∷_, _++_}
 use mathlib.Core.Option.{Option, none, some}
 use lib.ListN.{length, getD, getElem?, set}
 use lib.Seq.{getD-set-other}
-use Rattle.basics.specs.Choice.{maybe}
+use Rattle.basics.specs.Choice.{maybe, both-true}
 use Rattle.basics.specs.Text.{octets}
 use Rattle.harrop.specs.Formula.{Term, Goal, Clause, Strip}
 use Rattle.harrop.specs.Bindings.{Bindings}
@@ -19,6 +19,7 @@ use Rattle.sexp.specs.Past.{PastAt, Ends}
 use Rattle.sexp.proofs.StandLaws.{first-stands, others-stand, stands-inside, stands-once, cons-length}
 use Rattle.packet.specs.Written.{word, one, two, number, goalSexp, clauseSexp, stripSexp}
 use Rattle.packet.specs.Offset.{width, offsetOf}
+use Rattle.packet.specs.Barred.{goalOk, clauseOk}
 use Rattle.packet.specs.File.{mostBytes}
 use Rattle.packet.specs.declared.Word.{Word}
 use Rattle.packet.specs.declared.Word.the-variants as W
@@ -74,14 +75,14 @@ module _ {k : ℕ} (v : List ℕ) (e : head v ≡ k) where
 
 module _ {f : Files} {ss room : List ℕ} {ds : List (Clause Plain)} {us : List Term} {w : Where} {at nest : ℕ} {P : Strip} {o : List Plain} {c : Hand Plain} {bs : Bindings} {g : Goal Plain} (ready : Ready f ss room ds us w at nest P o c bs g) where
   -- a part that changes nothing but the goal
-  pub same-part : (start n i : ℕ) (part : Strip) (g′ : Goal Plain) → Stands ss start (stripSexp part) → suc (nesting (stripSexp part)) ≤ nesting (stripSexp P) → at < start → Stands (file (ready .place)) (w .goal .at + n) (goalSexp g′) → nesting (goalSexp g′) ≤ nesting (goalSexp g) → ((pos : Position) → at + offsetOf P (i ∷ pos) ≡ start + offsetOf part pos) → Part f ss room ds us w (within w n) at start P part i (check (listed us) part o c bs g′)
-  same-part start n i part g′ st sh la h l off =
+  pub same-part : (start n i : ℕ) (part : Strip) (g′ : Goal Plain) → Stands ss start (stripSexp part) → suc (nesting (stripSexp part)) ≤ nesting (stripSexp P) → at < start → Stands (file (ready .place)) (w .goal .at + n) (goalSexp g′) → nesting (goalSexp g′) ≤ nesting (goalSexp g) → goalOk (length bs) g′ ≡ true → ((pos : Position) → at + offsetOf P (i ∷ pos) ≡ start + offsetOf part pos) → Part f ss room ds us w (within w n) at start P part i (check (listed us) part o c bs g′)
+  same-part start n i part g′ st sh la h l ok off =
       record {
         goal = g′;
         parameters = o;
         clauses = c;
         bindings = bs;
-        place = part-means (ready .place) n g′ h l;
+        place = part-means (ready .place) n g′ h l ok;
         stands = st;
         shallower = sh;
         later = la;
@@ -109,14 +110,14 @@ module _ {f : Files} {ss room : List ℕ} {ds : List (Clause Plain)} {us : List 
   left-fits {X} {a} {b} r =
       record {
         kept = λ i l. refl;
-        told = (X, check (listed us) X o c bs a, same-part r (at + 7) 5 0 X a (first-part (octets "left") (heads .1 .1 .1 .0) (r .stands)) (omega arith) (omega arith) (first-part (octets "or") (heads .1 .1 .0) (r .place .framed .stands)) (omega arith) (λ pos. omega arith), refl, omega (arith, one-width (octets "left") (heads .1 .1 .1 .0) (stripSexp X)));
+        told = (X, check (listed us) X o c bs a, same-part r (at + 7) 5 0 X a (first-part (octets "left") (heads .1 .1 .1 .0) (r .stands)) (omega arith) (omega arith) (first-part (octets "or") (heads .1 .1 .0) (r .place .framed .stands)) (omega arith) (both-true (goalOk (length bs) a) (goalOk (length bs) b) (r .place .scoped) .0) (λ pos. omega arith), refl, omega (arith, one-width (octets "left") (heads .1 .1 .1 .0) (stripSexp X)));
       }
 
   pub right-fits : {X : Strip} {a b : Goal Plain} {n : ℕ} → Ready f ss room ds us w at nest (Strip.right X) o c bs (Goal.or a b) → n ≡ 5 + width (goalSexp a) → Same room f ss ds us w at (Strip.right X) (check (listed us) (Strip.right X) o c bs (Goal.or a b)) (E.One (at + 8) (within w n))
   right-fits {X} {a} {b} {n} r e =
       record {
         kept = λ i l. refl;
-        told = (X, check (listed us) X o c bs b, same-part r (at + 8) n 0 X b (first-part (octets "right") (heads .1 .1 .1 .1 .0) (r .stands)) (omega arith) (omega arith) (subst (λ (i : ℕ). Stands (file (r .place)) (w .goal .at + i) (goalSexp b)) (sym e) (second-part (octets "or") (heads .1 .1 .0) (r .place .framed .stands))) (omega arith) (λ pos. omega arith), refl, omega (arith, one-width (octets "right") (heads .1 .1 .1 .1 .0) (stripSexp X)));
+        told = (X, check (listed us) X o c bs b, same-part r (at + 8) n 0 X b (first-part (octets "right") (heads .1 .1 .1 .1 .0) (r .stands)) (omega arith) (omega arith) (subst (λ (i : ℕ). Stands (file (r .place)) (w .goal .at + i) (goalSexp b)) (sym e) (second-part (octets "or") (heads .1 .1 .0) (r .place .framed .stands))) (omega arith) (both-true (goalOk (length bs) a) (goalOk (length bs) b) (r .place .scoped) .1) (λ pos. omega arith), refl, omega (arith, one-width (octets "right") (heads .1 .1 .1 .1 .0) (stripSexp X)));
       }
 
   pub and-fits : {X Y : Strip} {a b : Goal Plain} {n : ℕ} → Ready f ss room ds us w at nest (Strip.and X Y) o c bs (Goal.and a b) → n ≡ 6 + width (goalSexp a) → Same room f ss ds us w at (Strip.and X Y) (check (listed us) (Strip.and X Y) o c bs (Goal.and a b)) (E.Two (at + 6) (within w 6) (within w n))
@@ -129,8 +130,8 @@ module _ {f : Files} {ss room : List ℕ} {ds : List (Clause Plain)} {us : List 
           Y,
           check (listed us) X o c bs a,
           check (listed us) Y o c bs b,
-          same-part r (at + 6) 6 0 X a (first-part (octets "and") (heads .1 .0) (r .stands)) (omega arith) (omega arith) (first-part (octets "and") (heads .1 .0) g) (omega arith) (λ pos. omega arith),
-          same-part r (at + 6 + width (stripSexp X)) n 1 Y b (subst (λ (i : ℕ). Stands ss i (stripSexp Y)) (omega arith) (second-part (octets "and") (heads .1 .0) (r .stands))) (omega arith) (omega arith) (subst (λ (i : ℕ). Stands (file (r .place)) (w .goal .at + i) (goalSexp b)) (sym e) (second-part (octets "and") (heads .1 .0) g)) (omega arith) (λ pos. omega arith),
+          same-part r (at + 6) 6 0 X a (first-part (octets "and") (heads .1 .0) (r .stands)) (omega arith) (omega arith) (first-part (octets "and") (heads .1 .0) g) (omega arith) (both-true (goalOk (length bs) a) (goalOk (length bs) b) (r .place .scoped) .0) (λ pos. omega arith),
+          same-part r (at + 6 + width (stripSexp X)) n 1 Y b (subst (λ (i : ℕ). Stands ss i (stripSexp Y)) (omega arith) (second-part (octets "and") (heads .1 .0) (r .stands))) (omega arith) (omega arith) (subst (λ (i : ℕ). Stands (file (r .place)) (w .goal .at + i) (goalSexp b)) (sym e) (second-part (octets "and") (heads .1 .0) g)) (omega arith) (both-true (goalOk (length bs) a) (goalOk (length bs) b) (r .place .scoped) .1) (λ pos. omega arith),
           omega arith,
           omega arith,
           refl,
@@ -158,7 +159,7 @@ module _ {f : Files} {ss room : List ℕ} {ds : List (Clause Plain)} {us : List 
             parameters = o;
             clauses = c;
             bindings = Candidate i ∷ bs;
-            place = bound-means here′ (Candidate i) 7 (w .parameters) o a (first-part (octets "some") (heads .1 .1 .1 .1 .1 .0) (here′ .framed .stands)) (omega arith) (omega arith) inside (rest .0) (rest .1) (here′ .openly);
+            place = bound-means here′ (Candidate i) 7 (w .parameters) o a (first-part (octets "some") (heads .1 .1 .1 .1 .1 .0) (here′ .framed .stands)) (omega arith) (here′ .scoped) (omega arith) inside (rest .0) (rest .1) (here′ .openly);
             stands = subst (λ (j : ℕ). Stands ss j (stripSexp X)) (sym e) (second-part (octets "some") (heads .1 .1 .1 .1 .1 .0) (r .stands));
             shallower = omega arith;
             later = omega arith;
@@ -191,7 +192,7 @@ module _ {f : Files} {ss room : List ℕ} {ds : List (Clause Plain)} {us : List 
             parameters = q ∷ o;
             clauses = c;
             bindings = Parameter (suc (length o)) ∷ bs;
-            place = subst (λ (k : ℕ). Means f (set room (w .top) (held (bindingWord (Parameter (w .parameters + 1))))) ds us (bound w 6 (w .parameters + 1)) (q ∷ o) c (Parameter k ∷ bs) a) n (bound-means here′ (Parameter (w .parameters + 1)) 6 (w .parameters + 1) (q ∷ o) a (first-part (octets "all") (heads .1 .1 .1 .1 .1 .1 .0) (here′ .framed .stands)) (omega arith) (omega (arith, r .enough .opened)) inside (rest .0) (rest .1) (sym n));
+            place = subst (λ (k : ℕ). Means f (set room (w .top) (held (bindingWord (Parameter (w .parameters + 1))))) ds us (bound w 6 (w .parameters + 1)) (q ∷ o) c (Parameter k ∷ bs) a) n (bound-means here′ (Parameter (w .parameters + 1)) 6 (w .parameters + 1) (q ∷ o) a (first-part (octets "all") (heads .1 .1 .1 .1 .1 .1 .0) (here′ .framed .stands)) (omega arith) (here′ .scoped) (omega (arith, r .enough .opened)) inside (rest .0) (rest .1) (sym n));
             stands = first-part (octets "all") (heads .1 .1 .1 .1 .1 .1 .0) (r .stands);
             shallower = omega arith;
             later = omega arith;
@@ -224,7 +225,7 @@ module _ {f : Files} {ss room : List ℕ} {ds : List (Clause Plain)} {us : List 
             parameters = o;
             clauses = c ++ (record { clause = d; bindings = bs } ∷ []);
             bindings = bs;
-            place = supposes-means here′ 6 n d a (first-part (octets "imp") (heads .1 .1 .1 .1 .1 .1 .1 .0) (here′ .framed .stands)) (omega arith) (subst (λ (i : ℕ). Stands (file here′) (w .goal .at + i) (goalSexp a)) (sym e) (second-part (octets "imp") (heads .1 .1 .1 .1 .1 .1 .1 .0) (here′ .framed .stands))) (omega arith) few (rest .0) (r .long);
+            place = supposes-means here′ 6 n d a (first-part (octets "imp") (heads .1 .1 .1 .1 .1 .1 .1 .0) (here′ .framed .stands)) (omega arith) (subst (λ (i : ℕ). Stands (file here′) (w .goal .at + i) (goalSexp a)) (sym e) (second-part (octets "imp") (heads .1 .1 .1 .1 .1 .1 .1 .0) (here′ .framed .stands))) (omega arith) (both-true (clauseOk (length bs) d) (goalOk (length bs) a) (here′ .scoped) .0) (both-true (clauseOk (length bs) d) (goalOk (length bs) a) (here′ .scoped) .1) few (rest .0) (r .long);
             stands = first-part (octets "imp") (heads .1 .1 .1 .1 .1 .1 .1 .0) (r .stands);
             shallower = omega arith;
             later = omega arith;
