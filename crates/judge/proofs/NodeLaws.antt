@@ -225,7 +225,7 @@ module _ {f : Files} {ss room : List ℕ} {ds : List (Clause Plain)} {us : List 
             parameters = o;
             clauses = c ++ (record { clause = d; bindings = bs } ∷ []);
             bindings = bs;
-            place = supposes-means here′ 6 n d a (first-part (octets "imp") (heads .1 .1 .1 .1 .1 .1 .1 .0) (here′ .framed .stands)) (omega arith) (subst (λ (i : ℕ). Stands (file here′) (w .goal .at + i) (goalSexp a)) (sym e) (second-part (octets "imp") (heads .1 .1 .1 .1 .1 .1 .1 .0) (here′ .framed .stands))) (omega arith) (both-true (clauseOk (length bs) d) (goalOk (length bs) a) (here′ .scoped) .0) (both-true (clauseOk (length bs) d) (goalOk (length bs) a) (here′ .scoped) .1) few (rest .0) (r .long);
+            place = supposes-means here′ 6 n d a (first-part (octets "imp") (heads .1 .1 .1 .1 .1 .1 .1 .0) (here′ .framed .stands)) (omega arith) (both-true (clauseOk (length bs) d) (goalOk (length bs) a) (here′ .scoped) .0) (subst (λ (i : ℕ). Stands (file here′) (w .goal .at + i) (goalSexp a)) (sym e) (second-part (octets "imp") (heads .1 .1 .1 .1 .1 .1 .1 .0) (here′ .framed .stands))) (omega arith) (both-true (clauseOk (length bs) d) (goalOk (length bs) a) (here′ .scoped) .1) few (rest .0) (r .long);
             stands = first-part (octets "imp") (heads .1 .1 .1 .1 .1 .1 .1 .0) (r .stands);
             shallower = omega arith;
             later = omega arith;
