@@ -4,27 +4,39 @@ use native.Mathlib.Omega.{arith}
 use mathlib.Core.Path.{_≡_, refl, sym, _∙_, ap, subst}
 use mathlib.Core.List.{List, [], _∷_}
 use mathlib.Core.Option.{Option, none, some}
-use lib.ListN.{length, drop, set}
+use mathlib.Core.Bool.{Bool, true, false, _&&_}
+use lib.Dec.{ltb, leb}
+use borrow.Author.Tests.{leb-true, leb-false}
+use lib.ListN.{length, drop, set, getD}
 use Rattle.basics.specs.Choice.{maybe}
 use Rattle.harrop.specs.Formula.{Term, Goal, Clause, Strip}
 use Rattle.harrop.specs.Bindings.{Bindings}
-use Rattle.harrop.specs.Place.{Hand, Plain, listed}
+use Rattle.harrop.specs.Place.{Hand, Plain, listed, allowed}
 use Rattle.harrop.specs.Views.{asTop, asAnd, asOr, asSome, asAll, asImp}
 use Rattle.harrop.specs.Check.{Judged, here, check}
-use Rattle.harrop.specs.declared.Binding.the-variants.{Parameter}
+use Rattle.harrop.specs.declared.Binding.the-variants.{Candidate, Parameter}
+use Rattle.harrop.proofs.ListLaws.{beyond-none}
 use Rattle.sexp.specs.Sexp.{Sexp, Stands, nesting}
 use Rattle.sexp.specs.Past.{PastAt, Ends}
 use Rattle.sexp.specs.declared.skip.After.{After}
 use Rattle.sexp.specs.declared.skip.After.the-variants as after′
-use Rattle.sexp.proofs.StandLaws.{stands-inside}
+use Rattle.sexp.proofs.StandLaws.{stands-inside, string-once}
+use Rattle.sexp.specs.Decimal.{decimal}
+use Rattle.sexp.specs.Words.{isNumber, worth}
+use Rattle.sexp.specs.WordsAt.{Numeral}
+use Rattle.sexp.proofs.WordLaws.{worth-decimal, decimal-is}
+use Rattle.sexp.proofs.WordsAtLaws.{numeral-stands}
 use Rattle.sexp.proofs.FoundLaws.{ends-here}
 use Rattle.packet.specs.Table.{rank}
 use Rattle.packet.specs.WordAt.{WordAt}
-use Rattle.packet.specs.Written.{goalSexp, clauseSexp, stripSexp}
+use Rattle.packet.specs.Written.{number, goalSexp, clauseSexp, stripSexp}
 use Rattle.packet.specs.Offset.{width}
 use Rattle.packet.specs.declared.Word.{Word}
 use Rattle.packet.specs.declared.Word.the-variants as W
 use Rattle.room.specs.Frame.{bindingWord, held}
+use Rattle.room.specs.Layout.{candidatesWord, highestWord}
+use Rattle.room.proofs.FrameLaws.{held-same}
+use Rattle.room.proofs.TableLaws.{table-allowed}
 use Rattle.room.specs.Spot.{supposing}
 use Rattle.room.specs.declared.Where.{Where}
 use Rattle.room.proofs.WhereLaws.{file}
@@ -35,7 +47,7 @@ use Rattle.judge.specs.declared.node.Entered.the-variants as E
 use Rattle.judge.proofs.HeadLaws.{part-stands, goal-says, node-shape, shape-is, rank-once, not-top, not-and, not-or, not-some, not-all, not-imp}
 use Rattle.judge.proofs.WalkLaws.{enter-is, strip-nests}
 use Rattle.basics.specs.Text.{octets}
-use Rattle.judge.proofs.NodeLaws.{heads, first-part, top-fits, and-fits, left-fits, right-fits, all-fits, imp-fits, enters-misfit}
+use Rattle.judge.proofs.NodeLaws.{heads, first-part, top-fits, and-fits, left-fits, right-fits, some-fits, all-fits, imp-fits, enters-misfit}
 
 -- what a node is, where its word is known
 pub node-is : (P : Strip) {v : Word} → stripWord P ≡ v → NodeShape v P
@@ -51,6 +63,19 @@ two-alike p q r = cc
 -- what is said of a room and an answer is said of equal ones
 pub says-as : {f : Files} {ss room after after′ : List ℕ} {ds : List (Clause Plain)} {us : List Term} {w : Where} {at : ℕ} {P : Strip} {j : Judged} {r e : Entered} → after ≡ after′ → r ≡ e → Enters f ss room after′ ds us w at P j e → Enters f ss room after ds us w at P j r
 says-as {f} {ss} {room} {after} {after′} {ds} {us} {w} {at} {P} {j} {r} {e} p q x = subst (λ (y : List ℕ). Enters f ss room y ds us w at P j r) (sym p) (enter-is (sym q) x)
+
+-- what was read at an offset that is known by another name
+pub numeral-from : {s : List ℕ} {a b n : ℕ} → a ≡ b → Numeral s a n → Numeral s b n
+numeral-from {s} {n = n} e h = subst (λ (j : ℕ). Numeral s j n) e h
+
+pub no-numeral-from : {s : List ℕ} {a b : ℕ} → a ≡ b → ((u : List ℕ) → Stands s a (Sexp.str u) → isNumber u ≡ true → ⊥) → (u : List ℕ) → Stands s b (Sexp.str u) → isNumber u ≡ true → ⊥
+no-numeral-from {s} e h u st n = h u (subst (λ (j : ℕ). Stands s j (Sexp.str u)) (sym e) st) n
+
+pub ends-from : {s : List ℕ} {a b k n : ℕ} → a ≡ b → Ends s a k n → Ends s b k n
+ends-from {s} {k = k} {n} e h = subst (λ (j : ℕ). Ends s j k n) e h
+
+pub nothing-from : {s : List ℕ} {a b k : ℕ} → a ≡ b → ((e : Sexp) → Stands s a e → nesting e ≤ k → ⊥) → (e : Sexp) → Stands s b e → nesting e ≤ k → ⊥
+nothing-from {s} p h e st n = h e (subst (λ (j : ℕ). Stands s j e) (sym p) st) n
 
 module _ {f : Files} {ss room : List ℕ} {ds : List (Clause Plain)} {us : List Term} {w : Where} {at nest : ℕ} {o : List Plain} {c : Hand Plain} {bs : Bindings} where
   -- an answer for the node and the goal that are known to be there
@@ -147,3 +172,62 @@ module _ {f : Files} {ss room : List ℕ} {ds : List (Clause Plain)} {us : List 
   -- there is always room for one parameter more
   pub all-never : {P : Strip} {g : Goal Plain} → Ready f ss room ds us w at nest P o c bs g → 64 ≤ w .parameters → ⊥
   all-never {P} x l = let z = strip-nests P in omega (arith, x .nests, x .enough .opened)
+
+  pub some-other : {P : Strip} {g : Goal Plain} {v : Word} → stripWord P ≡ W.Some → (x : Ready f ss room ds us w at nest P o c bs g) → WordAt (drop (w .goal .at) (file (x .place))) 1 v → (rank v ≡ rank W.Some → ⊥) → Enters f ss room room ds us w at P (check (listed us) P o c bs g) E.Misfit
+  some-other {P} {g} q x a n = misfit-known x (node-is P q .2) (rw (not-some g (λ e. n (ap rank (word-read x a) ∙ e))) refl)
+
+  -- a candidate that may not be used
+  pub some-barred : {i : ℕ} {X : Strip} {q : Plain} {a : Goal Plain} → Ready f ss room ds us w at nest (Strip.some i X) o c bs (Goal.some q a) → allowed (listed us) o q i ≡ false → Enters f ss room room ds us w at (Strip.some i X) (check (listed us) (Strip.some i X) o c bs (Goal.some q a)) E.Misfit
+  some-barred x e = enters-misfit (rw e refl)
+
+  -- the number that was read is the node's
+  pub some-number : {i k : ℕ} {X : Strip} {g : Goal Plain} (x : Ready f ss room ds us w at nest (Strip.some i X) o c bs g) → Numeral ss (plus at 7) k → k ≡ i
+  some-number {i} {k} {X} x n =
+      let y = first-part (octets "some") (heads .1 .1 .1 .1 .1 .0) (x .stands) in
+      let z = numeral-stands n .1 in
+      let e = string-once (subst (λ (j : ℕ). Stands ss j (Sexp.str (decimal k))) (strip-plus 7 x (omega arith)) z) y in
+      sym (worth-decimal k) ∙ (ap worth e ∙ worth-decimal i)
+
+  -- no candidate has so high a number
+  pub some-beyond : {i : ℕ} {X : Strip} {q : Plain} {a : Goal Plain} (x : Ready f ss room ds us w at nest (Strip.some i X) o c bs (Goal.some q a)) → ((v : List ℕ) → Stands ss (plus at 7) (Sexp.str v) → isNumber v ≡ true → ⊥) → allowed (listed us) o q i ≡ false
+  some-beyond {i} {X} {q} {a} x never = go (leb i 999) refl
+    where
+      go : (t : Bool) → leb i 999 ≡ t → allowed (listed us) o q i ≡ false
+      go true e = absurd (never (decimal i) (subst (λ (j : ℕ). Stands ss j (Sexp.str (decimal i))) (sym (strip-plus 7 x (omega arith))) (first-part (octets "some") (heads .1 .1 .1 .1 .1 .0) (x .stands))) (decimal-is i (leb-true i 999 e)))
+      go false e = let l = leb-false i 999 e in rw (beyond-none us i (omega (arith, x .place .booked .candidates .few)), allowed) refl
+
+  -- what the table says of a candidate
+  pub some-may : {P : Strip} {g : Goal Plain} (i : ℕ) (q : Plain) → (x : Ready f ss room ds us w at nest P o c bs g) → (ltb i (getD room candidatesWord 0) && leb (getD room (highestWord i) 0) (w .parameters)) ≡ allowed (listed us) o q i
+  some-may i q x = subst (λ (p : ℕ). (ltb i (getD room candidatesWord 0) && leb (getD room (highestWord i) 0) p) ≡ allowed (listed us) o q i) (x .place .openly) (table-allowed room (f .terms) us o q i (x .place .booked .candidates))
+
+  pub some-same : {P : Strip} {g : Goal Plain} {v : Word} {k start : ℕ} → stripWord P ≡ W.Some → (x : Ready f ss room ds us w at nest P o c bs g) → WordAt (drop (w .goal .at) (file (x .place))) 1 v → rank v ≡ rank W.Some → Numeral ss (plus at 7) k → (ltb k (getD room candidatesWord 0) && leb (getD room (highestWord k) 0) (w .parameters)) ≡ true → Ends ss (plus at 7) 0 start → Enters f ss room (set room (w .top) (held (bindingWord (Candidate (held k))))) ds us w at P (check (listed us) P o c bs g) (E.One start (bound w 7 (w .parameters)))
+  some-same {P} {g} {v} {k} {start} q x a n num may ends =
+      let (i, X, e) = node-is P q in
+      let (r, b, d) = shape-is g (sym (word-read x a) ∙ rank-once v W.Some n) in
+      as-known e d (λ y. found y) x
+    where
+      found : {i : ℕ} {X : Strip} {r : Plain} {b : Goal Plain} → Ready f ss room ds us w at nest (Strip.some i X) o c bs (Goal.some r b) → Enters f ss room (set room (w .top) (held (bindingWord (Candidate (held k))))) ds us w at (Strip.some i X) (check (listed us) (Strip.some i X) o c bs (Goal.some r b)) (E.One start (bound w 7 (w .parameters)))
+      found {i} {X} {r} {b} y =
+          let same = some-number y num in
+          let small = held-same k (omega (arith, numeral-stands num .0)) in
+          let st = strip-plus 7 y (omega arith) in
+          let here′ = first-part (octets "some") (heads .1 .1 .1 .1 .1 .0) (y .stands) in
+          let at′ = ends-here (subst (λ (j : ℕ). Stands ss j (number i)) (sym st) here′) ends in
+          subst (λ (j : ℕ). Enters f ss room (set room (w .top) (held (bindingWord (Candidate j)))) ds us w at (Strip.some i X) (check (listed us) (Strip.some i X) o c bs (Goal.some r b)) (E.One start (bound w 7 (w .parameters)))) (sym same ∙ sym small)
+          (some-fits y (sym (some-may i r y) ∙ subst (λ (j : ℕ). (ltb j (getD room candidatesWord 0) && leb (getD room (highestWord j) 0) (w .parameters)) ≡ true) same may) (omega arith))
+
+  -- the answers without a part
+  pub some-nothing : {P : Strip} {g : Goal Plain} {v : Word} → stripWord P ≡ W.Some → (x : Ready f ss room ds us w at nest P o c bs g) → WordAt (drop (w .goal .at) (file (x .place))) 1 v → rank v ≡ rank W.Some → ((u : List ℕ) → Stands ss (plus at 7) (Sexp.str u) → isNumber u ≡ true → ⊥) → Enters f ss room room ds us w at P (check (listed us) P o c bs g) E.Misfit
+  some-nothing {P} {g} {v} q x a n never =
+      let (i, X, e) = node-is P q in
+      let (r, b, d) = shape-is g (sym (word-read x a) ∙ rank-once v W.Some n) in
+      as-known e d (λ y. some-barred y (some-beyond y never)) x
+
+  pub some-refused : {P : Strip} {g : Goal Plain} {v : Word} {k : ℕ} → stripWord P ≡ W.Some → (x : Ready f ss room ds us w at nest P o c bs g) → WordAt (drop (w .goal .at) (file (x .place))) 1 v → rank v ≡ rank W.Some → Numeral ss (plus at 7) k → (ltb k (getD room candidatesWord 0) && leb (getD room (highestWord k) 0) (w .parameters)) ≡ false → Enters f ss room room ds us w at P (check (listed us) P o c bs g) E.Misfit
+  some-refused {P} {g} {v} {k} q x a n num may =
+      let (i, X, e) = node-is P q in
+      let (r, b, d) = shape-is g (sym (word-read x a) ∙ rank-once v W.Some n) in
+      as-known e d (λ y. some-barred y (sym (some-may i r y) ∙ subst (λ (j : ℕ). (ltb j (getD room candidatesWord 0) && leb (getD room (highestWord j) 0) (w .parameters)) ≡ false) (some-number y num) may)) x
+
+  pub some-never : {P : Strip} {g : Goal Plain} {k : ℕ} → stripWord P ≡ W.Some → Ready f ss room ds us w at nest P o c bs g → Numeral ss (plus at 7) k → ((e : Sexp) → Stands ss (plus at 7) e → nesting e ≤ 0 → ⊥) → ⊥
+  some-never q x num never = never _ (num .stands) (omega arith)

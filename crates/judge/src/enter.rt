@@ -5,6 +5,7 @@ use packet::Word;
 use room::Where;
 use room::bound;
 use room::further;
+use room::may_use;
 use room::past_part;
 use room::plus;
 use room::push;
@@ -13,6 +14,9 @@ use room::supposes;
 use room::within;
 use room::word_there;
 use sexp::After;
+use sexp::Value;
+use sexp::number;
+use sexp::past;
 ghost use mathlib.Core.Path.{_≡_};
 ghost use mathlib.Core.List.{List};
 ghost use Prim.Native.Nat.{ℕ};
@@ -20,6 +24,8 @@ ghost use Rattle.harrop.specs.Formula.{Goal};
 ghost use Rattle.harrop.specs.Place.{Plain};
 ghost use Rattle.packet.specs.Table as table;
 ghost use Rattle.packet.specs.declared.Word.the-variants as W;
+ghost use Rattle.harrop.specs.declared.Binding.the-variants.{Candidate};
+ghost use Rattle.room.specs.Frame.{held};
 ghost use Rattle.judge.specs.Walk.{EnteringAs, filesOf};
 
 // A word's place in the table's list of words, to compare words by.
@@ -165,6 +171,52 @@ pub(crate) fn enter_imp<'a>(
             let m = w.supposed;
             suppose(room, m, further(x, 6));
             Entered::One(plus(at, 6), supposes(w, n))
+        }
+    }
+}
+
+// A candidate by number; a number that no word holds counts as the largest.
+pub(crate) fn candidate(i: usize) -> Binding
+    ensures { λ r. ⌜ r ≡ Candidate (held i) ⌝ }
+{
+    if i < 0xffff_ffff {
+        return Binding::Candidate(i as u32);
+    }
+    Binding::Candidate(0xffff_ffff)
+}
+
+// `some` n: the variable becomes candidate n, if that may be used here.
+pub(crate) fn enter_some<'a>(
+    rules: &'a [u8],
+    goal: &'a [u8],
+    terms: &'a [u8],
+    strip: &[u8],
+    at: usize,
+    room: &mut [u32],
+    w: Where,
+) -> Entered
+    ensures { λ r. ⌜ ((nest : ℕ) → EnteringAs W.Some (filesOf (now (rules .entry)) (now (goal .entry)) (now (terms .entry))) (now (strip .entry)) (now (room .entry)) (now (room .exit)) at w nest r) ⌝ }
+{
+    let x = w.goal;
+    if rank(word_there(rules, goal, terms, x)) != 7 {
+        return Entered::Misfit;
+    }
+    let from = plus(at, 7);
+    let p = w.parameters;
+    match number(strip, from) {
+        Value::Nothing => Entered::Misfit,
+        Value::Is(i) => {
+            if !may_use(room, p, i) {
+                return Entered::Misfit;
+            }
+            match past(strip, from, 0) {
+                After::Nothing => Entered::Misfit,
+                After::Next(start) => {
+                    let top = w.top;
+                    push(room, top, candidate(i));
+                    Entered::One(start, bound(w, 7, p))
+                }
+            }
         }
     }
 }
