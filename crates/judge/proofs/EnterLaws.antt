@@ -44,7 +44,7 @@ use Rattle.judge.specs.Heads.{stripWord, goalWord, NodeShape, GoalShape}
 use Rattle.judge.specs.Walk.{Files, Framed, Means, Ready, Enters, plus, further, within, bound, supposes}
 use Rattle.judge.specs.declared.node.Entered.{Entered}
 use Rattle.judge.specs.declared.node.Entered.the-variants as E
-use Rattle.judge.proofs.HeadLaws.{part-stands, goal-says, node-shape, shape-is, rank-once, not-top, not-and, not-or, not-some, not-all, not-imp}
+use Rattle.judge.proofs.HeadLaws.{part-stands, strip-says, goal-says, node-shape, shape-is, rank-once, not-top, not-and, not-or, not-some, not-all, not-imp}
 use Rattle.judge.proofs.WalkLaws.{enter-is, strip-nests}
 use Rattle.basics.specs.Text.{octets}
 use Rattle.judge.proofs.NodeLaws.{heads, first-part, top-fits, and-fits, left-fits, right-fits, some-fits, all-fits, imp-fits, enters-misfit}
@@ -52,6 +52,18 @@ use Rattle.judge.proofs.NodeLaws.{heads, first-part, top-fits, and-fits
 -- what a node is, where its word is known
 pub node-is : (P : Strip) {v : Word} → stripWord P ≡ v → NodeShape v P
 node-is P e = subst (λ (v : Word). NodeShape v P) e (node-shape P)
+
+ranked-node : (P : Strip) (n : ℕ) → n ≡ rank (stripWord P) → (n ≡ 4 → ⊥) → (n ≡ 5 → ⊥) → (n ≡ 7 → ⊥) → (n ≡ 8 → ⊥) → (n ≡ 9 → ⊥) → (n ≡ 10 → ⊥) → (n ≡ 11 → ⊥) → (n ≡ 12 → ⊥) → ⊥
+unfolding stripWord rank
+ranked-node Strip.top n e a b c d f g h i = a e
+ranked-node (Strip.and P R) n e a b c d f g h i = b e
+ranked-node (Strip.left P) n e a b c d f g h i = g e
+ranked-node (Strip.right P) n e a b c d f g h i = h e
+ranked-node (Strip.some j P) n e a b c d f g h i = c e
+ranked-node (Strip.all P) n e a b c d f g h i = d e
+ranked-node (Strip.imp P) n e a b c d f g h i = f e
+ranked-node (Strip.use₀ k path) n e a b c d f g h i = i e
+ranked-node (Strip.use₁ k path P) n e a b c d f g h i = i e
 
 -- equal parts, equal answers
 pub one-alike : {a b : ℕ} {x y : Where} → a ≡ b → x ≡ y → E.One a x ≡ E.One b y
@@ -231,3 +243,15 @@ module _ {f : Files} {ss room : List ℕ} {ds : List (Clause Plain)} {us : List 
 
   pub some-never : {P : Strip} {g : Goal Plain} {k : ℕ} → stripWord P ≡ W.Some → Ready f ss room ds us w at nest P o c bs g → Numeral ss (plus at 7) k → ((e : Sexp) → Stands ss (plus at 7) e → nesting e ≤ 0 → ⊥) → ⊥
   some-never q x num never = never _ (num .stands) (omega arith)
+
+  -- the word that was read is the node's
+  pub node-word : {P : Strip} {g : Goal Plain} {v : Word} {i n : ℕ} (k : Word) → Ready f ss room ds us w at nest P o c bs g → i ≡ plus at 1 → WordAt ss i v → n ≡ rank v → n ≡ rank k → stripWord P ≡ k
+  node-word {P} {g} {v} {i} k x e a p q =
+      let s = strip-says ss at P v (x .stands) (subst (λ (j : ℕ). WordAt ss j v) (e ∙ strip-plus 1 x (omega arith)) a) in
+      sym s ∙ rank-once v k (sym p ∙ q)
+
+  -- a node has one of the table's words for a node
+  pub no-node : {P : Strip} {g : Goal Plain} {v : Word} {i n : ℕ} → Ready f ss room ds us w at nest P o c bs g → i ≡ plus at 1 → WordAt ss i v → n ≡ rank v → (n ≡ 4 → ⊥) → (n ≡ 5 → ⊥) → (n ≡ 7 → ⊥) → (n ≡ 8 → ⊥) → (n ≡ 9 → ⊥) → (n ≡ 10 → ⊥) → (n ≡ 11 → ⊥) → (n ≡ 12 → ⊥) → ⊥
+  no-node {P} {g} {v} {i} {n} x e a p n₄ n₅ n₇ n₈ n₉ n₁₀ n₁₁ n₁₂ =
+      let s = strip-says ss at P v (x .stands) (subst (λ (j : ℕ). WordAt ss j v) (e ∙ strip-plus 1 x (omega arith)) a) in
+      ranked-node P n (p ∙ ap rank s) n₄ n₅ n₇ n₈ n₉ n₁₀ n₁₁ n₁₂

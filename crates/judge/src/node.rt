@@ -1,5 +1,16 @@
 // The walk down the strip: each node judged at its own place, then its parts at theirs (document 01, "When a strip fits").
+use crate::enter::enter_all;
+use crate::enter::enter_and;
+use crate::enter::enter_imp;
+use crate::enter::enter_left;
+use crate::enter::enter_right;
+use crate::enter::enter_some;
+use crate::enter::enter_top;
+use crate::enter::rank;
+use crate::uses::enter_use;
+use packet::word_at;
 use room::Where;
+use room::plus;
 ghost use mathlib.Core.Path.{_≡_};
 ghost use mathlib.Core.List.{List};
 ghost use Prim.Native.Nat.{ℕ, _+_, _≤_, _<_, max};
@@ -20,6 +31,7 @@ pub enum Outcome {
     Misfit(usize),
 }
 
+// A node judged at its own place, by its word.
 fn enter<'a>(
     rules: &'a [u8],
     goal: &'a [u8],
@@ -32,10 +44,32 @@ fn enter<'a>(
 ) -> Entered
     ensures { λ r. ⌜ Entering (filesOf (now (rules .entry)) (now (goal .entry)) (now (terms .entry))) (now (strip .entry)) (now (room .entry)) (now (room .exit)) at w nest r ⌝ }
 {
-    if at < 3 {
-        return Entered::Two(at, w, w);
+    let word = rank(word_at(strip, plus(at, 1)));
+    if word == 4 {
+        return enter_top(rules, goal, terms, at, w);
     }
-    Entered::Leaf(at)
+    if word == 5 {
+        return enter_and(rules, goal, terms, at, w);
+    }
+    if word == 7 {
+        return enter_some(rules, goal, terms, strip, at, room, w);
+    }
+    if word == 8 {
+        return enter_all(rules, goal, terms, at, room, w);
+    }
+    if word == 9 {
+        return enter_imp(rules, goal, terms, at, room, w);
+    }
+    if word == 10 {
+        return enter_left(rules, goal, terms, at, w);
+    }
+    if word == 11 {
+        return enter_right(rules, goal, terms, at, w);
+    }
+    if word == 12 {
+        return enter_use(rules, goal, terms, strip, at, room, w, nest);
+    }
+    Entered::Misfit
 }
 
 // A node whose parts end at `next`, where its closing parenthesis stands.

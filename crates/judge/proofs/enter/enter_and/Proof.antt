@@ -1,65 +1,45 @@
-use mathlib.Core.Path.{sym, ap, _∙_}
+-- `enter_and` meets its contract.
+use mathlib.Core.Path.{sym, _∙_}
 use Rattle.packet.specs.Table.{rank}
 use Rattle.sexp.proofs.AnswerLaws.{past-next, past-nothing}
-use Rattle.room.specs.Spot.{supposing}
-use Rattle.judge.specs.declared.node.Entered.the-variants as E
 use Rattle.judge.proofs.WalkLaws.{enter-is}
-use Rattle.judge.proofs.EnterLaws.{one-alike, two-alike, says-as, top-other, top-same, left-other, left-same, and-other, and-same, and-never, right-other, right-same, right-never, imp-other, imp-same, imp-never, all-other, all-same, all-never}
-use native.Mathlib.Omega.{arith}
+use Rattle.judge.proofs.EnterLaws.{two-alike, and-other, and-same, and-never}
 use borrow.Author.Needs.{needs}
 use Rattle.judge.proofs.enter.enter_and.Statement.{statement}
 use Rattle.judge.proofs.enter.enter_and.Tie as tie
-use Rattle.judge.proofs.enter.enter_and.Reads as reads
-use Rattle.judge.proofs.enter.enter_and.Lts as lts
-use Rattle.judge.proofs.enter.rank.Reads as rank-reads
-use Rattle.room.proofs.past_part.Reads as past-part-reads
-use Rattle.room.proofs.plus.Reads as plus-reads
-use Rattle.room.proofs.within.Reads as within-reads
-use Rattle.room.proofs.word_there.Reads as word-there-reads
 
--- src/enter.rt:77:13
 word-there-requires : tie.Need-word-there-requires
 word-there-requires c κs = search needs
 
--- src/enter.rt:77:8
 rank-requires : tie.Need-rank-requires
 rank-requires c κs = search needs
 
--- src/enter.rt:78:9
 returns : tie.Need-returns
 unfolding rank
 returns c = λ ss room nest ds us P o h bs g q x. and-other q x (c .before .before .word-there .ensures) (λ e. c .if1 .taken (c .before .rank .ensures ∙ e))
 
--- src/enter.rt:80:11
 past-part-requires : tie.Need-past-part-requires
 past-part-requires c κs = search needs
 
--- src/enter.rt:81:27
 enum-told : tie.Need-enum-told
 enum-told c = search needs
 
--- src/enter.rt:82:21
 enum-known-n : tie.Need-enum-known-n
 enum-known-n c = search needs
 
--- src/enter.rt:82:40
 plus-requires : tie.Need-plus-requires
 plus-requires c κs = search needs
 
--- src/enter.rt:82:53
 within-requires : tie.Need-within-requires
 within-requires c κs = search needs
 
--- src/enter.rt:82:67
 within-requires-2 : tie.Need-within-requires-2
 within-requires-2 c κs = search needs
 
--- src/enter.rt:67:1
 returns-2 : tie.Need-returns-2
 unfolding rank
 returns-2 c = λ ss room nest ds us P o h bs g q x. absurd (and-never q x (c .before .before .before .before .before .word-there .ensures) (sym (c .before .before .before .before .rank .ensures) ∙ c .before .before .before .if1 .left) (past-nothing (c .enum-told .given .1) (c .before .before .past-part .ensures)))
 
--- src/enter.rt:67:1
 returns-3 : tie.Need-returns-3
 unfolding rank
 returns-3 c = λ ss room nest ds us P o h bs g q x. enter-is (two-alike (sym (c .before .before .plus .ensures)) (sym (c .before .within .ensures)) (sym (c .within2 .ensures))) (and-same q x (c .before .before .before .before .before .before .before .before .before .word-there .ensures) (sym (c .before .before .before .before .before .before .before .before .rank .ensures) ∙ c .before .before .before .before .before .before .before .if1 .left) (past-next (c .before .before .before .before .n .given .1) (c .before .before .before .before .before .before .past-part .ensures)))

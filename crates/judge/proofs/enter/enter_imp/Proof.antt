@@ -1,75 +1,51 @@
+-- `enter_imp` meets its contract.
 use mathlib.Core.Path.{sym, ap, _∙_}
 use Rattle.packet.specs.Table.{rank}
 use Rattle.sexp.proofs.AnswerLaws.{past-next, past-nothing}
 use Rattle.room.specs.Spot.{supposing}
-use Rattle.judge.specs.declared.node.Entered.the-variants as E
-use Rattle.judge.proofs.WalkLaws.{enter-is}
-use Rattle.judge.proofs.EnterLaws.{one-alike, two-alike, says-as, top-other, top-same, left-other, left-same, and-other, and-same, and-never, right-other, right-same, right-never, imp-other, imp-same, imp-never, all-other, all-same, all-never}
-use native.Mathlib.Omega.{arith}
+use Rattle.judge.proofs.EnterLaws.{one-alike, says-as, imp-other, imp-same, imp-never}
 use borrow.Author.Needs.{needs}
 use Rattle.judge.proofs.enter.enter_imp.Statement.{statement}
 use Rattle.judge.proofs.enter.enter_imp.Tie as tie
-use Rattle.judge.proofs.enter.enter_imp.Reads as reads
-use Rattle.judge.proofs.enter.enter_imp.Lts as lts
-use Rattle.judge.proofs.enter.rank.Reads as rank-reads
-use Rattle.room.proofs.suppose.Reads as suppose-reads
-use Rattle.room.proofs.further.Reads as further-reads
-use Rattle.room.proofs.past_part.Reads as past-part-reads
-use Rattle.room.proofs.plus.Reads as plus-reads
-use Rattle.room.proofs.supposes.Reads as supposes-reads
-use Rattle.room.proofs.word_there.Reads as word-there-reads
 
--- src/enter.rt:159:13
 word-there-requires : tie.Need-word-there-requires
 word-there-requires c κs = search needs
 
--- src/enter.rt:159:8
 rank-requires : tie.Need-rank-requires
 rank-requires c κs = search needs
 
--- src/enter.rt:160:9
 returns : tie.Need-returns
 unfolding rank
 returns c = λ ss nest ds us P o h bs g q x. imp-other q x (c .before .before .word-there .ensures) (λ e. c .if1 .taken (c .before .rank .ensures ∙ e))
 
--- src/enter.rt:162:11
 past-part-requires : tie.Need-past-part-requires
 past-part-requires c κs = search needs
 
--- src/enter.rt:163:27
 enum-told : tie.Need-enum-told
 enum-told c = search needs
 
--- src/enter.rt:164:21
 enum-known-n : tie.Need-enum-known-n
 enum-known-n c = search needs
 
--- src/enter.rt:166:30
 further-requires : tie.Need-further-requires
 further-requires c κs = search needs
 
--- src/enter.rt:166:13
 suppose-requires : tie.Need-suppose-requires
 suppose-requires c κs = search needs
 
--- src/enter.rt:167:26
 plus-requires : tie.Need-plus-requires
 plus-requires c κs = search needs
 
--- src/enter.rt:167:39
 supposes-requires : tie.Need-supposes-requires
 supposes-requires c κs = search needs
 
--- src/enter.rt:148:1
 returns-2 : tie.Need-returns-2
 unfolding rank
 returns-2 c = λ ss nest ds us P o h bs g q x. absurd (imp-never q x (c .before .before .before .before .before .word-there .ensures) (sym (c .before .before .before .before .rank .ensures) ∙ c .before .before .before .if1 .left) (past-nothing (c .enum-told .given .1) (c .before .before .past-part .ensures)))
 
--- src/enter.rt:148:1
 same-length : tie.Need-same-length
 same-length c = search needs
 
--- src/enter.rt:148:1
 returns-3 : tie.Need-returns-3
 unfolding rank
 returns-3 c = λ ss nest ds us P o h bs g q x. says-as (c .before .before .before .before .suppose .ensures ∙ ap (supposing _ _) (c .before .before .before .before .before .further .ensures)) (one-alike (c .before .plus .ensures) (c .supposes .ensures)) (imp-same q x (c .before .before .before .before .before .before .before .before .before .before .before .before .before .word-there .ensures) (sym (c .before .before .before .before .before .before .before .before .before .before .before .before .rank .ensures) ∙ c .before .before .before .before .before .before .before .before .before .before .before .if1 .left) (past-next (c .before .before .before .before .before .before .before .before .n .given .1) (c .before .before .before .before .before .before .before .before .before .before .past-part .ensures)))

@@ -1,61 +1,42 @@
-use mathlib.Core.Path.{sym, ap, _∙_}
+-- `enter_right` meets its contract.
+use mathlib.Core.Path.{sym, _∙_}
 use Rattle.packet.specs.Table.{rank}
 use Rattle.sexp.proofs.AnswerLaws.{past-next, past-nothing}
-use Rattle.room.specs.Spot.{supposing}
-use Rattle.judge.specs.declared.node.Entered.the-variants as E
 use Rattle.judge.proofs.WalkLaws.{enter-is}
-use Rattle.judge.proofs.EnterLaws.{one-alike, two-alike, says-as, top-other, top-same, left-other, left-same, and-other, and-same, and-never, right-other, right-same, right-never, imp-other, imp-same, imp-never, all-other, all-same, all-never}
-use native.Mathlib.Omega.{arith}
+use Rattle.judge.proofs.EnterLaws.{one-alike, right-other, right-same, right-never}
 use borrow.Author.Needs.{needs}
 use Rattle.judge.proofs.enter.enter_right.Statement.{statement}
 use Rattle.judge.proofs.enter.enter_right.Tie as tie
-use Rattle.judge.proofs.enter.enter_right.Reads as reads
-use Rattle.judge.proofs.enter.enter_right.Lts as lts
-use Rattle.judge.proofs.enter.rank.Reads as rank-reads
-use Rattle.room.proofs.past_part.Reads as past-part-reads
-use Rattle.room.proofs.plus.Reads as plus-reads
-use Rattle.room.proofs.within.Reads as within-reads
-use Rattle.room.proofs.word_there.Reads as word-there-reads
 
--- src/enter.rt:114:13
 word-there-requires : tie.Need-word-there-requires
 word-there-requires c κs = search needs
 
--- src/enter.rt:114:8
 rank-requires : tie.Need-rank-requires
 rank-requires c κs = search needs
 
--- src/enter.rt:115:9
 returns : tie.Need-returns
 unfolding rank
 returns c = λ ss room nest ds us P o h bs g q x. right-other q x (c .before .before .word-there .ensures) (λ e. c .if1 .taken (c .before .rank .ensures ∙ e))
 
--- src/enter.rt:117:11
 past-part-requires : tie.Need-past-part-requires
 past-part-requires c κs = search needs
 
--- src/enter.rt:118:27
 enum-told : tie.Need-enum-told
 enum-told c = search needs
 
--- src/enter.rt:119:21
 enum-known-n : tie.Need-enum-known-n
 enum-known-n c = search needs
 
--- src/enter.rt:119:40
 plus-requires : tie.Need-plus-requires
 plus-requires c κs = search needs
 
--- src/enter.rt:119:53
 within-requires : tie.Need-within-requires
 within-requires c κs = search needs
 
--- src/enter.rt:104:1
 returns-2 : tie.Need-returns-2
 unfolding rank
 returns-2 c = λ ss room nest ds us P o h bs g q x. absurd (right-never q x (c .before .before .before .before .before .word-there .ensures) (sym (c .before .before .before .before .rank .ensures) ∙ c .before .before .before .if1 .left) (past-nothing (c .enum-told .given .1) (c .before .before .past-part .ensures)))
 
--- src/enter.rt:104:1
 returns-3 : tie.Need-returns-3
 unfolding rank
 returns-3 c = λ ss room nest ds us P o h bs g q x. enter-is (one-alike (sym (c .before .plus .ensures)) (sym (c .within .ensures))) (right-same q x (c .before .before .before .before .before .before .before .before .word-there .ensures) (sym (c .before .before .before .before .before .before .before .rank .ensures) ∙ c .before .before .before .before .before .before .if1 .left) (past-next (c .before .before .before .n .given .1) (c .before .before .before .before .before .past-part .ensures)))

@@ -1,8 +1,8 @@
-use mathlib.Core.Path.{sym, _∙_, ap, subst}
+-- `+node` meets its contract.
+use mathlib.Core.Path.{sym, _∙_}
 use native.Mathlib.Omega.{arith}
 use borrow.Author.Needs.{needs}
-use Prim.Native.Nat.{ℕ, _<_, _+_}
-use Rattle.judge.specs.declared.node.Outcome.the-variants as O
+use Prim.Native.Nat.{ℕ}
 use Rattle.judge.proofs.WalkLaws.{strip-nests, enter-is, judges-is, bounded-is, misfit-node, leaf-node, part-ready, one-misfit, one-fits, two-first, second-ready, two-second, two-fit}
 use borrow.Fn.Kinds.{In}
 use borrow.Fn.PlainCycle.{Measures, is, falls, and}
@@ -25,116 +25,89 @@ node-at t = and 3 node-kinds.ps (is 3 node-kinds.ps μ-node t) node.Pre
 abbrev node-below : ℕ → In 3 node-kinds.ps
 node-below t = and 3 node-kinds.ps (falls 3 node-kinds.ps _<_ μ-node t) node.Pre
 
--- src/node.rt:108:9
 node-returns : (t : ℕ) → node-lts.Need-returns (enter-reads.Asked, enter-reads.Learnt, leaf-reads.Asked, leaf-reads.Learnt, node-below t, node.Post, close-reads.Asked, close-reads.Learnt, higher-reads.Asked, higher-reads.Learnt) (node-at t) node.Post
 node-returns t c = (tt, λ ds us P o h bs g ready. absurd (omega (arith, strip-nests P, ready .nests, c .if1 .taken)))
 
--- src/node.rt:110:9
 node-enter-requires : (t : ℕ) → node-lts.Need-enter-requires (enter-reads.Asked, enter-reads.Learnt, leaf-reads.Asked, leaf-reads.Learnt, node-below t, node.Post, close-reads.Asked, close-reads.Learnt, higher-reads.Asked, higher-reads.Learnt) (node-at t) node.Post
 node-enter-requires t c κs = search needs
 
--- src/node.rt:112:28
 node-enum-told : (t : ℕ) → node-lts.Need-enum-told (enter-reads.Asked, enter-reads.Learnt, leaf-reads.Asked, leaf-reads.Learnt, node-below t, node.Post, close-reads.Asked, close-reads.Learnt, higher-reads.Asked, higher-reads.Learnt) (node-at t) node.Post
 node-enum-told t c = search needs
 
--- src/node.rt:113:23
 node-enum-known-e : (t : ℕ) → node-lts.Need-enum-known-e (enter-reads.Asked, enter-reads.Learnt, leaf-reads.Asked, leaf-reads.Learnt, node-below t, node.Post, close-reads.Asked, close-reads.Learnt, higher-reads.Asked, higher-reads.Learnt) (node-at t) node.Post
 node-enum-known-e t c = search needs
 
--- src/node.rt:113:32
 node-leaf-requires : (t : ℕ) → node-lts.Need-leaf-requires (enter-reads.Asked, enter-reads.Learnt, leaf-reads.Asked, leaf-reads.Learnt, node-below t, node.Post, close-reads.Asked, close-reads.Learnt, higher-reads.Asked, higher-reads.Learnt) (node-at t) node.Post
 node-leaf-requires t c κs = search needs
 
--- src/node.rt:114:22
 node-enum-known-e-2 : (t : ℕ) → node-lts.Need-enum-known-e-2 (enter-reads.Asked, enter-reads.Learnt, leaf-reads.Asked, leaf-reads.Learnt, node-below t, node.Post, close-reads.Asked, close-reads.Learnt, higher-reads.Asked, higher-reads.Learnt) (node-at t) node.Post
 node-enum-known-e-2 t c = search needs
 
--- src/node.rt:115:77
 node-sub-node : (t : ℕ) → node-lts.Need-sub-node (enter-reads.Asked, enter-reads.Learnt, leaf-reads.Asked, leaf-reads.Learnt, node-below t, node.Post, close-reads.Asked, close-reads.Learnt, higher-reads.Asked, higher-reads.Learnt) (node-at t) node.Post
 node-sub-node t c = search needs
 
--- src/node.rt:115:17
 node-node-requires : (t : ℕ) → node-lts.Need-node-requires (enter-reads.Asked, enter-reads.Learnt, leaf-reads.Asked, leaf-reads.Learnt, node-below t, node.Post, close-reads.Asked, close-reads.Learnt, higher-reads.Asked, higher-reads.Learnt) (node-at t) node.Post
 node-node-requires t c κs = search needs
 
--- src/node.rt:117:33
 node-enum-known-one : (t : ℕ) → node-lts.Need-enum-known-one (enter-reads.Asked, enter-reads.Learnt, leaf-reads.Asked, leaf-reads.Learnt, node-below t, node.Post, close-reads.Asked, close-reads.Learnt, higher-reads.Asked, higher-reads.Learnt) (node-at t) node.Post
 node-enum-known-one t c = search needs
 
--- src/node.rt:118:31
 node-enum-known-one-2 : (t : ℕ) → node-lts.Need-enum-known-one-2 (enter-reads.Asked, enter-reads.Learnt, leaf-reads.Asked, leaf-reads.Learnt, node-below t, node.Post, close-reads.Asked, close-reads.Learnt, higher-reads.Asked, higher-reads.Learnt) (node-at t) node.Post
 node-enum-known-one-2 t c = search needs
 
--- src/node.rt:118:46
 node-close-requires : (t : ℕ) → node-lts.Need-close-requires (enter-reads.Asked, enter-reads.Learnt, leaf-reads.Asked, leaf-reads.Learnt, node-below t, node.Post, close-reads.Asked, close-reads.Learnt, higher-reads.Asked, higher-reads.Learnt) (node-at t) node.Post
 node-close-requires t c κs = search needs
 
--- src/node.rt:121:22
 node-enum-known-e-3 : (t : ℕ) → node-lts.Need-enum-known-e-3 (enter-reads.Asked, enter-reads.Learnt, leaf-reads.Asked, leaf-reads.Learnt, node-below t, node.Post, close-reads.Asked, close-reads.Learnt, higher-reads.Asked, higher-reads.Learnt) (node-at t) node.Post
 node-enum-known-e-3 t c = search needs
 
--- src/node.rt:122:78
 node-sub-node-2 : (t : ℕ) → node-lts.Need-sub-node-2 (enter-reads.Asked, enter-reads.Learnt, leaf-reads.Asked, leaf-reads.Learnt, node-below t, node.Post, close-reads.Asked, close-reads.Learnt, higher-reads.Asked, higher-reads.Learnt) (node-at t) node.Post
 node-sub-node-2 t c = search needs
 
--- src/node.rt:122:17
 node-node-requires-2 : (t : ℕ) → node-lts.Need-node-requires-2 (enter-reads.Asked, enter-reads.Learnt, leaf-reads.Asked, leaf-reads.Learnt, node-below t, node.Post, close-reads.Asked, close-reads.Learnt, higher-reads.Asked, higher-reads.Learnt) (node-at t) node.Post
 node-node-requires-2 t c κs = search needs
 
--- src/node.rt:124:33
 node-enum-known-one-3 : (t : ℕ) → node-lts.Need-enum-known-one-3 (enter-reads.Asked, enter-reads.Learnt, leaf-reads.Asked, leaf-reads.Learnt, node-below t, node.Post, close-reads.Asked, close-reads.Learnt, higher-reads.Asked, higher-reads.Learnt) (node-at t) node.Post
 node-enum-known-one-3 t c = search needs
 
--- src/node.rt:125:31
 node-enum-known-one-4 : (t : ℕ) → node-lts.Need-enum-known-one-4 (enter-reads.Asked, enter-reads.Learnt, leaf-reads.Asked, leaf-reads.Learnt, node-below t, node.Post, close-reads.Asked, close-reads.Learnt, higher-reads.Asked, higher-reads.Learnt) (node-at t) node.Post
 node-enum-known-one-4 t c = search needs
 
--- src/node.rt:126:85
 node-sub-node-3 : (t : ℕ) → node-lts.Need-sub-node-3 (enter-reads.Asked, enter-reads.Learnt, leaf-reads.Asked, leaf-reads.Learnt, node-below t, node.Post, close-reads.Asked, close-reads.Learnt, higher-reads.Asked, higher-reads.Learnt) (node-at t) node.Post
 node-sub-node-3 t c = search needs
 
--- src/node.rt:126:25
 node-node-requires-3 : (t : ℕ) → node-lts.Need-node-requires-3 (enter-reads.Asked, enter-reads.Learnt, leaf-reads.Asked, leaf-reads.Learnt, node-below t, node.Post, close-reads.Asked, close-reads.Learnt, higher-reads.Asked, higher-reads.Learnt) (node-at t) node.Post
 node-node-requires-3 t c κs = (omega (arith, c .before .before .before .before .before .before .before .before .before .before .before .before .before .before .before .if1 .left, c .before .before .before .before .before .before .before .before .before .before .before .before .before .before .before .before .before .before .before .before .before .pre .0), tt)
 
--- src/node.rt:128:41
 node-enum-known-two : (t : ℕ) → node-lts.Need-enum-known-two (enter-reads.Asked, enter-reads.Learnt, leaf-reads.Asked, leaf-reads.Learnt, node-below t, node.Post, close-reads.Asked, close-reads.Learnt, higher-reads.Asked, higher-reads.Learnt) (node-at t) node.Post
 node-enum-known-two t c = search needs
 
--- src/node.rt:129:39
 node-enum-known-two-2 : (t : ℕ) → node-lts.Need-enum-known-two-2 (enter-reads.Asked, enter-reads.Learnt, leaf-reads.Asked, leaf-reads.Learnt, node-below t, node.Post, close-reads.Asked, close-reads.Learnt, higher-reads.Asked, higher-reads.Learnt) (node-at t) node.Post
 node-enum-known-two-2 t c = search needs
 
--- src/node.rt:130:58
 node-higher-requires : (t : ℕ) → node-lts.Need-higher-requires (enter-reads.Asked, enter-reads.Learnt, leaf-reads.Asked, leaf-reads.Learnt, node-below t, node.Post, close-reads.Asked, close-reads.Learnt, higher-reads.Asked, higher-reads.Learnt) (node-at t) node.Post
 node-higher-requires t c κs = search needs
 
--- src/node.rt:130:72
 node-add-close : (t : ℕ) → node-lts.Need-add-close (enter-reads.Asked, enter-reads.Learnt, leaf-reads.Asked, leaf-reads.Learnt, node-below t, node.Post, close-reads.Asked, close-reads.Learnt, higher-reads.Asked, higher-reads.Learnt) (node-at t) node.Post
 node-add-close t c =
     let b = bounded-is _ _ _ (c .before .before .before .before .before .before .before .before .before .one4 .given .1) (c .before .before .before .before .before .before .before .before .before .before .before .before .before .node2 .ensures .0) in
     let d = bounded-is _ _ _ (c .before .before .two2 .given .1) (c .before .before .before .before .before .before .node3 .ensures .0) in
     omega (arith, b .0, b .1, d .0, d .1 .0)
 
--- src/node.rt:130:29
 node-close-requires-2 : (t : ℕ) → node-lts.Need-close-requires-2 (enter-reads.Asked, enter-reads.Learnt, leaf-reads.Asked, leaf-reads.Learnt, node-below t, node.Post, close-reads.Asked, close-reads.Learnt, higher-reads.Asked, higher-reads.Learnt) (node-at t) node.Post
 node-close-requires-2 t c κs = search needs
 
--- src/node.rt:93:1
 node-same-length : (t : ℕ) → node-lts.Need-same-length (enter-reads.Asked, enter-reads.Learnt, leaf-reads.Asked, leaf-reads.Learnt, node-below t, node.Post, close-reads.Asked, close-reads.Learnt, higher-reads.Asked, higher-reads.Learnt) (node-at t) node.Post
 node-same-length t c = search needs
 
--- src/node.rt:93:1
 node-returns-2 : (t : ℕ) → node-lts.Need-returns-2 (enter-reads.Asked, enter-reads.Learnt, leaf-reads.Asked, leaf-reads.Learnt, node-below t, node.Post, close-reads.Asked, close-reads.Learnt, higher-reads.Asked, higher-reads.Learnt) (node-at t) node.Post
 node-returns-2 t c =
     let x = c .before .before .before .before .before .before .before .before .before .before .before .before .args in
     (tt, λ ds us P o h bs g ready. misfit-node ready (enter-is (c .enum-told .given .1) (c .before .before .before .before .enter .ensures ds us P o h bs g ready)))
 
--- src/node.rt:93:1
 node-same-length-2 : (t : ℕ) → node-lts.Need-same-length-2 (enter-reads.Asked, enter-reads.Learnt, leaf-reads.Asked, leaf-reads.Learnt, node-below t, node.Post, close-reads.Asked, close-reads.Learnt, higher-reads.Asked, higher-reads.Learnt) (node-at t) node.Post
 node-same-length-2 t c = search needs
 
--- src/node.rt:93:1
 node-returns-3 : (t : ℕ) → node-lts.Need-returns-3 (enter-reads.Asked, enter-reads.Learnt, leaf-reads.Asked, leaf-reads.Learnt, node-below t, node.Post, close-reads.Asked, close-reads.Learnt, higher-reads.Asked, higher-reads.Learnt) (node-at t) node.Post
 node-returns-3 t c = (
   c .leaf .ensures .0 (c .before .before .before .before .before .before .before .before .before .before .before .before .before .before .args .nest) (omega arith),
@@ -143,11 +116,9 @@ node-returns-3 t c = (
       judges-is (sym (c .leaf .ensures .1 a (r .0))) (r .1),
 )
 
--- src/node.rt:93:1
 node-same-length-3 : (t : ℕ) → node-lts.Need-same-length-3 (enter-reads.Asked, enter-reads.Learnt, leaf-reads.Asked, leaf-reads.Learnt, node-below t, node.Post, close-reads.Asked, close-reads.Learnt, higher-reads.Asked, higher-reads.Learnt) (node-at t) node.Post
 node-same-length-3 t c = search needs
 
--- src/node.rt:93:1
 node-returns-4 : (t : ℕ) → node-lts.Need-returns-4 (enter-reads.Asked, enter-reads.Learnt, leaf-reads.Asked, leaf-reads.Learnt, node-below t, node.Post, close-reads.Asked, close-reads.Learnt, higher-reads.Asked, higher-reads.Learnt) (node-at t) node.Post
 node-returns-4 t c = (
   tt,
@@ -158,11 +129,9 @@ node-returns-4 t c = (
       one-misfit ready e (judges-is (c .before .one .given .1) i),
 )
 
--- src/node.rt:93:1
 node-same-length-4 : (t : ℕ) → node-lts.Need-same-length-4 (enter-reads.Asked, enter-reads.Learnt, leaf-reads.Asked, leaf-reads.Learnt, node-below t, node.Post, close-reads.Asked, close-reads.Learnt, higher-reads.Asked, higher-reads.Learnt) (node-at t) node.Post
 node-same-length-4 t c = search needs
 
--- src/node.rt:93:1
 node-returns-5 : (t : ℕ) → node-lts.Need-returns-5 (enter-reads.Asked, enter-reads.Learnt, leaf-reads.Asked, leaf-reads.Learnt, node-below t, node.Post, close-reads.Asked, close-reads.Learnt, higher-reads.Asked, higher-reads.Learnt) (node-at t) node.Post
 node-returns-5 t c = (
   c .close .ensures .0,
@@ -174,11 +143,9 @@ node-returns-5 t c = (
       judges-is (sym (c .close .ensures .1 a (r .0) (r .1 .0))) (r .1 .1),
 )
 
--- src/node.rt:93:1
 node-same-length-5 : (t : ℕ) → node-lts.Need-same-length-5 (enter-reads.Asked, enter-reads.Learnt, leaf-reads.Asked, leaf-reads.Learnt, node-below t, node.Post, close-reads.Asked, close-reads.Learnt, higher-reads.Asked, higher-reads.Learnt) (node-at t) node.Post
 node-same-length-5 t c = search needs
 
--- src/node.rt:93:1
 node-returns-6 : (t : ℕ) → node-lts.Need-returns-6 (enter-reads.Asked, enter-reads.Learnt, leaf-reads.Asked, leaf-reads.Learnt, node-below t, node.Post, close-reads.Asked, close-reads.Learnt, higher-reads.Asked, higher-reads.Learnt) (node-at t) node.Post
 node-returns-6 t c = (
   tt,
@@ -189,11 +156,9 @@ node-returns-6 t c = (
       two-first ready e (judges-is (c .before .one3 .given .1) i),
 )
 
--- src/node.rt:93:1
 node-same-length-6 : (t : ℕ) → node-lts.Need-same-length-6 (enter-reads.Asked, enter-reads.Learnt, leaf-reads.Asked, leaf-reads.Learnt, node-below t, node.Post, close-reads.Asked, close-reads.Learnt, higher-reads.Asked, higher-reads.Learnt) (node-at t) node.Post
 node-same-length-6 t c = search needs
 
--- src/node.rt:93:1
 node-returns-7 : (t : ℕ) → node-lts.Need-returns-7 (enter-reads.Asked, enter-reads.Learnt, leaf-reads.Asked, leaf-reads.Learnt, node-below t, node.Post, close-reads.Asked, close-reads.Learnt, higher-reads.Asked, higher-reads.Learnt) (node-at t) node.Post
 node-returns-7 t c = (
   tt,
@@ -206,11 +171,9 @@ node-returns-7 t c = (
       two-second ready e i (judges-is (c .before .two .given .1) j),
 )
 
--- src/node.rt:93:1
 node-same-length-7 : (t : ℕ) → node-lts.Need-same-length-7 (enter-reads.Asked, enter-reads.Learnt, leaf-reads.Asked, leaf-reads.Learnt, node-below t, node.Post, close-reads.Asked, close-reads.Learnt, higher-reads.Asked, higher-reads.Learnt) (node-at t) node.Post
 node-same-length-7 t c = c .before .before .before .before .before .before .before .node3 .kept .1 .1 .1 .1 .1 .0 ∙ (c .before .before .before .before .before .before .before .before .before .before .before .before .before .before .node2 .kept .1 .1 .1 .1 .1 .0 ∙ c .before .before .before .before .before .before .before .before .before .before .before .before .before .before .before .before .before .before .before .before .before .enter .kept .1 .1 .1 .1 .1 .0)
 
--- src/node.rt:93:1
 node-returns-8 : (t : ℕ) → node-lts.Need-returns-8 (enter-reads.Asked, enter-reads.Learnt, leaf-reads.Asked, leaf-reads.Learnt, node-below t, node.Post, close-reads.Asked, close-reads.Learnt, higher-reads.Asked, higher-reads.Learnt) (node-at t) node.Post
 node-returns-8 t c = (
   c .close2 .ensures .0,
