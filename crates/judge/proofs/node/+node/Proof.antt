@@ -2,7 +2,7 @@
 use mathlib.Core.Path.{sym, _∙_}
 use native.Mathlib.Omega.{arith}
 use borrow.Author.Needs.{needs}
-use Prim.Native.Nat.{ℕ}
+use Prim.Native.Nat.{ℕ, _<_}
 use Rattle.judge.proofs.WalkLaws.{strip-nests, enter-is, judges-is, bounded-is, misfit-node, leaf-node, part-ready, one-misfit, one-fits, two-first, second-ready, two-second, two-fit}
 use borrow.Fn.Kinds.{In}
 use borrow.Fn.PlainCycle.{Measures, is, falls, and}
