@@ -1,4 +1,9 @@
+pub mod EndLaws
 pub mod EnterLaws
+pub mod FollowLaws
+pub mod HandLaws
 pub mod HeadLaws
 pub mod NodeLaws
+pub mod PathLaws
+pub mod UseLaws
 pub mod WalkLaws
