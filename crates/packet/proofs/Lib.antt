@@ -18,3 +18,4 @@ pub mod PacketLaws
 pub mod OffsetLaws
 pub mod CountLaws
 pub mod JudgedLaws
+pub mod Examples
