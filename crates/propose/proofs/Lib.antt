@@ -2,3 +2,8 @@ pub mod ProvableLaws
 pub mod WalkLaws
 pub mod ChosenLaws
 pub mod TakenLaws
+pub mod HeadLaws
+pub mod ReadyLaws
+pub mod HandLaws
+pub mod ProvingLaws
+pub mod PassingLaws

@@ -1,3 +1,6 @@
 pub mod Proposed
 pub mod Provable
 pub mod Chosen
+pub mod Heads
+pub mod Hand
+pub mod Proving

@@ -1,0 +1,330 @@
+-- Whether a path through a clause ends at an atom, with a proof of the body if there is one: by the clause's word, what the answers for its parts say of it (document 01, "When a strip fits", "Which strip the search writes").
+-- Each law ends in the contract of a function of src/provable.
+use Prim.Native.Nat.{ℕ, suc, _+_, _*_, _-_, _≤_, _<_, min}
+use native.Mathlib.Omega.{arith}
+use mathlib.Core.Path.{_≡_, refl, sym, _∙_, ap, ap₂, subst}
+use mathlib.Core.Bool.{Bool, true, false, _&&_, _||_}
+use mathlib.Core.List.{List, [], _∷_}
+use mathlib.Core.Option.{Option, none, some}
+use lib.Dec.{ltb, leb}
+use lib.ListN.{length, getD, getElem?, drop, set, length-set}
+use Rattle.basics.specs.Choice.{maybe}
+use Rattle.basics.specs.Text.{octets}
+use Rattle.harrop.specs.declared.Binding.the-variants.{Candidate}
+use Rattle.harrop.specs.Formula.{Term, Atom, Goal, Clause}
+use Rattle.harrop.specs.Bindings.{Bindings, replacedAtom, sameAtom}
+use Rattle.harrop.specs.Place.{AtHand, Hand, Plain, listed}
+use Rattle.sexp.specs.declared.skip.After.{After}
+use Rattle.sexp.specs.declared.skip.After.the-variants as A
+use Rattle.sexp.specs.Past.{PastAt}
+use Rattle.sexp.specs.Sexp.{Sexp, Stands, nesting}
+use Rattle.packet.specs.declared.Word.{Word}
+use Rattle.packet.specs.declared.Word.the-variants as W
+use Rattle.packet.specs.WordAt.{WordAt}
+use Rattle.packet.specs.declared.Kind.the-variants as K
+use Rattle.packet.specs.declared.table.Row.the-variants as R
+use Rattle.packet.specs.Rows.{rowOf}
+use Rattle.packet.specs.Table.{dueAfter}
+use Rattle.packet.specs.Barred.{goalOk, atomOk, clauseOk}
+use Rattle.packet.specs.Written.{atomSexp, goalSexp, clauseSexp}
+use Rattle.room.specs.Layout.{levels, candidatesWord, highestWord}
+use Rattle.room.specs.Frame.{bindingWord, held, bindingsIn}
+use Rattle.room.specs.Spot.{fileOf, bindingsAt}
+use Rattle.room.specs.Term.{AtomAt, SameAtoms}
+use Rattle.room.specs.Where.{Files, Kept, Framed, Means, plus, further}
+use Rattle.room.specs.declared.Spot.{Spot}
+use Rattle.room.specs.declared.Where.{Where}
+use Rattle.room.proofs.FrameLaws.{frame-length, frame-pushed}
+use Rattle.room.proofs.NestLaws.{clause-nests}
+use Rattle.room.proofs.WhereLaws.{kept-then, kept-less, framed-kept, file-small, plus-inside, push-keeps}
+use Rattle.room.proofs.MoveLaws.{hand-higher}
+use Rattle.propose.specs.Heads.{clauseWord}
+use Rattle.propose.specs.Hand.{deeper, Opened}
+use Rattle.propose.specs.Provable as spec
+use Rattle.propose.specs.Proving.{Ready, Taken, Answers, Proving, ProvingBy, Passing, PassingAs, PassingWith, passes, passesWith}
+use Rattle.propose.specs.declared.clauses.Chosen.{Chosen}
+use Rattle.propose.specs.declared.clauses.Chosen.the-variants as C
+use Rattle.propose.proofs.WalkLaws.{any-here, any-none}
+use Rattle.propose.proofs.HeadLaws.{clause-says, clause-is, clause-has-row, heads, first-part, second-found, first-found}
+use Rattle.propose.proofs.ReadyLaws.{may-be, allowed-below, ready-kept}
+use Rattle.propose.proofs.HandLaws.{opened-none, opened-clause}
+use Rattle.propose.proofs.ProvingLaws.{bytesAt, and-no, and-yes, or-yes, or-no, proving-at, both-of}
+
+-- how many bindings a frame has
+pub frame-counts : {f : Files} {room : List ℕ} {x : Spot} {top : ℕ} {e : Sexp} {bs : Bindings} → Framed f room x top e bs → length bs ≡ x .count
+frame-counts {room = room} {x = x} h = ap length (sym (h .holds)) ∙ frame-length room (x .base) (x .count)
+
+-- an atom with its frame
+pub atom-at : {f : Files} {room : List ℕ} {x : Spot} {top : ℕ} {bs : Bindings} (a : Atom) → Framed f room x top (atomSexp a) bs → atomOk (length bs) a ≡ true → AtomAt (f .rules) (f .goal) (f .terms) x a
+atom-at {x = x} a h ok =
+    record { stands = h .stands; shallow = omega (arith, h .shallow); few = omega (arith, h .shallow); ok = subst (λ (n : ℕ). atomOk n a ≡ true) (frame-counts h) ok }
+
+module _ {f : Files} {room : List ℕ} {ds : List (Clause Plain)} {us : List Term} {w : Where} {x : Spot} {left : ℕ} {o : List Plain} {c : Hand Plain} {bs : Bindings} {a : Atom} {d : Clause Plain} {bs′ : Bindings} (t : Taken f room ds us w x left o c bs a d bs′) where
+  -- a part of what stands there
+  part-framed : (n : ℕ) {e : Sexp} → Stands (bytesAt f x) (x .at + n) e → nesting e ≤ nesting (clauseSexp d) → Framed f room (further x n) (x .base + x .count) e bs′
+  part-framed n {e} h l =
+      record {
+        stands = subst (λ (i : ℕ). Stands (bytesAt f x) i e) (sym (plus-inside (bytesAt f x) (x .at) n (file-small (t .ready .place .booked) (x .source)) h)) h;
+        above = t .framed .above;
+        below = t .framed .below;
+        holds = t .framed .holds;
+        shallow = omega (arith, t .framed .shallow);
+      }
+
+  pub taken-part : (n : ℕ) (d′ : Clause Plain) → Stands (bytesAt f x) (x .at + n) (clauseSexp d′) → nesting (clauseSexp d′) ≤ nesting (clauseSexp d) → clauseOk (length bs′) d′ ≡ true → Taken f room ds us w (further x n) left o c bs a d′ bs′
+  taken-part n d′ h l ok = record { ready = t .ready; framed = part-framed n h l; scoped = ok; fresh = t .fresh }
+
+  -- the same after a call that keeps what is below the frame's end
+  pub taken-kept : {after : List ℕ} → Kept (w .supposed) (x .base + x .count) room after → length after ≡ length room → Taken f after ds us w x left o c bs a d bs′
+  taken-kept {after} k e =
+      record {
+        ready = ready-kept (kept-less room after (omega arith) (omega (arith, t .fresh)) k) e (t .ready);
+        framed = framed-kept {t = x .base + x .count} (omega arith) k (t .framed);
+        scoped = t .scoped;
+        fresh = t .fresh;
+      }
+
+  -- with a candidate for its variable
+  pub push-kept : (v : ℕ) → Kept (w .supposed) (x .base + x .count) room (set room (plus (x .base) (x .count)) v)
+  push-kept v =
+      subst (λ (i : ℕ). Kept (w .supposed) (x .base + x .count) room (set room i v)) {x = x .base + x .count} {y = plus (x .base) (x .count)} (omega (arith, t .fresh, t .ready .enough .bindings, t .framed .shallow))
+      (push-keeps room (w .supposed) (x .base + x .count) v (omega (arith, t .ready .enough .supposed)) (omega (arith, t .framed .above)))
+
+  pub taken-with : (n i : ℕ) (d′ : Clause Plain) → Stands (bytesAt f x) (x .at + n) (clauseSexp d′) → nesting (clauseSexp d′) + 1 ≤ nesting (clauseSexp d) → clauseOk (suc (length bs′)) d′ ≡ true → i < length us → Taken f (set room (plus (x .base) (x .count)) (held (bindingWord (Candidate i)))) ds us w (deeper x n) left o c bs a d′ (Candidate i ∷ bs′)
+  taken-with n i d′ h l ok b =
+      let v = held (bindingWord (Candidate i)) in
+      let top : plus (x .base) (x .count) ≡ x .base + x .count = omega (arith, t .fresh, t .ready .enough .bindings, t .framed .shallow) in
+      let more : plus (x .count) 1 ≡ suc (x .count) = omega (arith, t .framed .shallow) in
+      let k = push-kept v in
+      record {
+        ready = ready-kept (kept-less room (set room (plus (x .base) (x .count)) v) (omega arith) (omega (arith, t .fresh)) k) (length-set room (plus (x .base) (x .count)) v) (t .ready);
+        framed =
+            record {
+              stands = subst (λ (j : ℕ). Stands (bytesAt f x) j (clauseSexp d′)) (sym (plus-inside (bytesAt f x) (x .at) n (file-small (t .ready .place .booked) (x .source)) h)) h;
+              above = t .framed .above;
+              below = omega arith;
+              holds =
+                  ap₂ (λ (j : ℕ) (m : ℕ). bindingsIn (set room j v) (x .base) m) top more
+                  ∙ (frame-pushed room (x .base) (x .count) (Candidate i) (omega (arith, t .fresh, t .ready .enough .bindings, t .ready .long, t .framed .shallow)) (omega (arith, t .ready .place .booked .candidates .few)) ∙ ap (λ (y : Bindings). Candidate i ∷ y) (t .framed .holds));
+              shallow = omega (arith, t .framed .shallow);
+            };
+        scoped = ok;
+        fresh = t .fresh;
+      }
+
+-- the place of a body
+abbrev pub bodyAt : Where → Spot → ℕ → Where
+bodyAt w x n = record { goal = further x n; supposed = w .supposed; parameters = w .parameters; top = plus (x .base) (x .count) }
+
+pub body-is : (w : Where) (x : Spot) (n : ℕ) {y : Spot} {t : ℕ} → y ≡ further x n → t ≡ plus (x .base) (x .count) → record { goal = y; supposed = w .supposed; parameters = w .parameters; top = t } ≡ bodyAt w x n
+body-is w x n e q = λ i. record { goal = e i; supposed = w .supposed; parameters = w .parameters; top = q i }
+
+pub ready-body : {f : Files} {room : List ℕ} {ds : List (Clause Plain)} {us : List Term} {w : Where} {x : Spot} {left : ℕ} {o : List Plain} {c : Hand Plain} {bs : Bindings} {a : Atom} {d : Clause Plain} {bs′ : Bindings} (t : Taken f room ds us w x left o c bs a d bs′) (n : ℕ) (g : Goal Plain) → Stands (bytesAt f x) (x .at + n) (goalSexp g) → nesting (goalSexp g) ≤ nesting (clauseSexp d) → goalOk (length bs′) g ≡ true → Ready f room ds us (bodyAt w x n) left o c bs′ g
+ready-body {f} {room} {ds} {us} {w} {x} t n g h l ok =
+    let top : x .base + x .count ≡ plus (x .base) (x .count) = omega (arith, t .fresh, t .ready .enough .bindings, t .framed .shallow) in
+    let fr = part-framed t n h l in
+    record {
+      place =
+          record {
+            booked = t .ready .place .booked;
+            framed = record { stands = fr .stands; above = fr .above; below = omega (arith, top); holds = fr .holds; shallow = fr .shallow };
+            scoped = ok;
+            tight = top;
+            openly = t .ready .place .openly;
+            hand = hand-higher (omega (arith, t .fresh, top)) (t .ready .place .hand);
+          };
+      enough =
+          record {
+            bindings = omega (arith, t .ready .enough .bindings, t .fresh, t .framed .shallow);
+            supposed = omega (arith, t .ready .enough .supposed);
+            opened = omega (arith, t .ready .enough .opened);
+          };
+      long = t .ready .long;
+    }
+
+-- what is claimed of a clause
+abbrev Claim : Files → List ℕ → List ℕ → List (Clause Plain) → List Term → Where → Spot → ℕ → ℕ → List Plain → Hand Plain → Bindings → Atom → Bindings → Bool → Clause Plain → Type 0
+Claim f room after ds us w x nest left o c bs a bs′ r d =
+    nesting (clauseSexp d) ≤ nest → Taken f room ds us w x left o c bs a d bs′ → Answers (w .supposed) (x .base + x .count) room after (passes us left o c bs a d bs′) r
+
+-- a call's promise at the spot that the code made
+pub passing-at : {f : Files} {room after : List ℕ} {w : Where} {x y : Spot} {nest left : ℕ} {r : Bool} → x ≡ y → Passing f room after w x nest left r → Passing f room after w y nest left r
+passing-at {f} {room} {after} {w} {nest = nest} {left = left} {r = r} e p = subst (λ (z : Spot). Passing f room after w z nest left r) e p
+
+pub passing-from : {f : Files} {room now after : List ℕ} {w : Where} {x : Spot} {nest left : ℕ} {r : Bool} → now ≡ room → Passing f now after w x nest left r → Passing f room after w x nest left r
+passing-from {f} {after = after} {w = w} {x = x} {nest = nest} {left = left} {r = r} e p = subst (λ (z : List ℕ). Passing f z after w x nest left r) e p
+
+-- where the loop over candidates is: what is below the frame's end is kept, and those from i on decide
+abbrev pub AllLeft : Files → List ℕ → Where → Spot → ℕ → ℕ → List ℕ → ℕ → Type 0
+AllLeft f room w x nest left now i =
+    (ds : List (Clause Plain)) (us : List Term) (o : List Plain) (c : Hand Plain) (bs : Bindings) (a : Atom) (q : Plain) (d : Clause Plain) (bs′ : Bindings) →
+    nesting (clauseSexp (Clause.allD q d)) ≤ suc nest →
+    Taken f room ds us w x left o c bs a (Clause.allD q d) bs′ →
+    (Kept (w .supposed) (x .base + x .count) room now) × (passes us left o c bs a (Clause.allD q d) bs′ ≡ spec.candidatesFrom (listed us) o q (passesWith us left o c bs a d bs′) i)
+
+module _ {f : Files} {room : List ℕ} {w : Where} {x : Spot} {left : ℕ} where
+  -- a clause is a list
+  pub no-nest : (nest : ℕ) → nest ≡ 0 → Passing f room room w x nest left false
+  no-nest nest e ds us o c bs a d bs′ l t = absurd (omega (arith, clause-nests d))
+
+  -- a clause by its word
+  pub by-word : {after : List ℕ} {r : Bool} (nest : ℕ) (word k : Word) → (nest ≡ 0 → ⊥) → WordAt (drop (x .at) (bytesAt f x)) 1 k → k ≡ word → PassingAs word f room after w x (nest - 1) left r → Passing f room after w x nest left r
+  by-word nest word k z q e p ds us o c bs a d bs′ l t =
+      p ds us o c bs a d bs′ (sym (clause-says (bytesAt f x) (x .at) d k (t .framed .stands) q) ∙ e) (omega arith) t
+
+  -- no clause has any other word
+  pub by-other : (nest : ℕ) (k : Word) → WordAt (drop (x .at) (bytesAt f x)) 1 k → R.Nothing ≡ rowOf (dueAfter K.Clause k) → Passing f room room w x nest left false
+  by-other nest k q n ds us o c bs a d bs′ l t = absurd (clause-has-row d k (clause-says (bytesAt f x) (x .at) d k (t .framed .stands) q) n)
+
+  -- an atom
+  pub atom-same : {s : Bool} (nest : ℕ) → SameAtoms (f .rules) (f .goal) (f .terms) room x (w .goal) s → PassingAs W.Atom f room room w x nest left s
+  unfolding spec.through spec.ending
+  atom-same {s} nest p ds us o c bs a d bs′ h =
+      let (b, n) = clause-is d h in
+      subst (Claim f room room ds us w x (suc nest) left o c bs a bs′ s) (sym n)
+      (λ l t.
+      let m = t .ready .place in
+      record {
+        kept = λ i k. refl;
+        answer =
+            p us b a (m .booked .candidates) (atom-at b (t .framed) (t .scoped)) (atom-at a (m .framed) (m .scoped))
+            ∙ ap₂ (λ (u : Bindings) (v : Bindings). sameAtom (replacedAtom us u b) (replacedAtom us v a)) (t .framed .holds) (m .framed .holds);
+      })
+
+  -- a goal that implies an atom
+  pub imp-lost : {q : After} (nest : ℕ) → PastAt (drop (x .at) (bytesAt f x)) 6 64 q → q ≡ A.Nothing → PassingAs W.Imp f room room w x nest left false
+  imp-lost nest p e ds us o c bs a d bs′ h =
+      let (g, b, n) = clause-is d h in
+      subst (Claim f room room ds us w x (suc nest) left o c bs a bs′ false) (sym n)
+      (λ l t. absurd (first-found (octets "imp") (heads .1 .1 .1 .1) (t .framed .stands) (omega (arith, t .framed .shallow)) p e))
+
+  -- its atom
+  imp-atom : {ds : List (Clause Plain)} {us : List Term} {o : List Plain} {c : Hand Plain} {bs : Bindings} {a : Atom} {g : Goal Plain} {b : Atom} {bs′ : Bindings} {q : After} {n : ℕ} {y : Spot} {s : Bool}
+      → Taken f room ds us w x left o c bs a (Clause.impD g b) bs′ → PastAt (drop (x .at) (bytesAt f x)) 6 64 q → q ≡ A.Next n → y ≡ further x n → SameAtoms (f .rules) (f .goal) (f .terms) room y (w .goal) s
+      → s ≡ sameAtom (replacedAtom us bs′ b) (replacedAtom us bs a)
+  imp-atom {us = us} {a = a} {g = g} {b = b} {bs′ = bs′} {n = n} {s = s} t p e i k =
+      let m = t .ready .place in
+      let fr = part-framed t n (second-found (octets "imp") (heads .1 .1 .1 .1) (t .framed .stands) p e) (omega arith) in
+      subst (λ (z : Spot). SameAtoms (f .rules) (f .goal) (f .terms) room z (w .goal) s) i k us b a (m .booked .candidates) (atom-at b fr (both-of (goalOk (length bs′) g) (atomOk (length bs′) b) (t .scoped) .1)) (atom-at a (m .framed) (m .scoped))
+      ∙ ap₂ (λ (u : Bindings) (v : Bindings). sameAtom (replacedAtom us u b) (replacedAtom us v a)) (t .framed .holds) (m .framed .holds)
+
+  pub imp-other : {q : After} {n : ℕ} {y : Spot} {s : Bool} (nest : ℕ) → PastAt (drop (x .at) (bytesAt f x)) 6 64 q → q ≡ A.Next n → y ≡ further x n → SameAtoms (f .rules) (f .goal) (f .terms) room y (w .goal) s → s ≡ false → PassingAs W.Imp f room room w x nest left false
+  unfolding spec.through spec.ending
+  imp-other nest p e i k z ds us o c bs a d bs′ h =
+      let (g, b, n) = clause-is d h in
+      subst (Claim f room room ds us w x (suc nest) left o c bs a bs′ false) (sym n)
+      (λ l t. record { kept = λ i k. refl; answer = and-no (spec.provable (listed us) left o c bs′ g) (imp-atom t p e i k) z })
+
+  pub imp-body : {after : List ℕ} {q : After} {n : ℕ} {y : Spot} {v : Where} {s r : Bool} (nest : ℕ) → PastAt (drop (x .at) (bytesAt f x)) 6 64 q → q ≡ A.Next n → y ≡ further x n → SameAtoms (f .rules) (f .goal) (f .terms) room y (w .goal) s → s ≡ true → v ≡ bodyAt w x 6 → Proving f room after v left r → PassingAs W.Imp f room after w x nest left r
+  unfolding spec.through spec.ending
+  imp-body {after} {r = r} nest p e i k z j body ds us o c bs a d bs′ h =
+      let (g, b, n) = clause-is d h in
+      subst (Claim f room after ds us w x (suc nest) left o c bs a bs′ r) (sym n)
+      (λ l t.
+      let m = proving-at j body ds us o c bs′ g (ready-body t 6 g (first-part (octets "imp") (heads .1 .1 .1 .1) (t .framed .stands)) (omega arith) (both-of (goalOk (length bs′) g) (atomOk (length bs′) b) (t .scoped) .0)) in
+      record {
+        kept = kept-less room after (omega arith) (omega (arith, t .fresh, t .ready .enough .bindings, t .framed .shallow)) (m .kept);
+        answer = and-yes (imp-atom t p e i k) z (m .answer);
+      })
+
+  -- two clauses
+  pub and-lost : {q : After} (nest : ℕ) → PastAt (drop (x .at) (bytesAt f x)) 6 64 q → q ≡ A.Nothing → PassingAs W.And f room room w x nest left false
+  and-lost nest p e ds us o c bs a d bs′ h =
+      let (y, z, n) = clause-is d h in
+      subst (Claim f room room ds us w x (suc nest) left o c bs a bs′ false) (sym n)
+      (λ l t. absurd (first-found (octets "and") (heads .0) (t .framed .stands) (omega (arith, t .framed .shallow)) p e))
+
+  pub and-first : {mid : List ℕ} {u : Spot} {s : Bool} (nest : ℕ) → u ≡ further x 6 → Passing f room mid w u nest left s → s ≡ true → PassingAs W.And f room mid w x nest left true
+  unfolding spec.through
+  and-first {mid} nest i p e ds us o c bs a d bs′ h =
+      let (y, z, n) = clause-is d h in
+      subst (Claim f room mid ds us w x (suc nest) left o c bs a bs′ true) (sym n)
+      (λ l t.
+      let m = passing-at i p ds us o c bs a y bs′ (omega arith) (taken-part t 6 y (first-part (octets "and") (heads .0) (t .framed .stands)) (omega arith) (both-of (clauseOk (length bs′) y) (clauseOk (length bs′) z) (t .scoped) .0)) in
+      record { kept = m .kept; answer = or-yes (passes us left o c bs a z bs′) (m .answer) e })
+
+  pub and-second : {mid after : List ℕ} {u v : Spot} {q : After} {k : ℕ} {s r : Bool} (nest : ℕ) → u ≡ further x 6 → v ≡ further x k → PastAt (drop (x .at) (bytesAt f x)) 6 64 q → q ≡ A.Next k → Passing f room mid w u nest left s → s ≡ false → length mid ≡ length room → Passing f mid after w v nest left r → PassingAs W.And f room after w x nest left r
+  unfolding spec.through
+  and-second {mid} {after} {k = k} {r = r} nest i j b e p z l p′ ds us o c bs a d bs′ h =
+      let (y, y′, n) = clause-is d h in
+      subst (Claim f room after ds us w x (suc nest) left o c bs a bs′ r) (sym n)
+      (λ d t.
+      let (ok, ok′) = both-of (clauseOk (length bs′) y) (clauseOk (length bs′) y′) (t .scoped) in
+      let m = passing-at i p ds us o c bs a y bs′ (omega arith) (taken-part t 6 y (first-part (octets "and") (heads .0) (t .framed .stands)) (omega arith) ok) in
+      let t′ = taken-part t k y′ (second-found (octets "and") (heads .0) (t .framed .stands) b e) (omega arith) ok′ in
+      let m′ = passing-at j p′ ds us o c bs a y′ bs′ (omega arith) (taken-kept t′ (m .kept) l) in
+      record { kept = kept-then room mid after (omega arith) (omega arith) (m .kept) (m′ .kept); answer = or-no (m .answer) z (m′ .answer) })
+
+  -- an `all`: candidate i
+  pub with-barred : (i nest : ℕ) (u : Bool) → u ≡ (ltb i (getD room candidatesWord 0) && leb (getD room (highestWord i) 0) (w .parameters)) → u ≡ false → PassingWith f room room w x i nest left false
+  unfolding spec.candidateDoes
+  with-barred i nest u e n ds us o c bs a q d bs′ l t =
+      let m = t .ready .place in
+      record { kept = λ j k. refl; answer = and-no (passesWith us left o c bs a d bs′ i) (e ∙ may-be room (f .terms) us o q i (w .parameters) (m .booked .candidates) (m .openly)) n }
+
+  pub with-goes : {after : List ℕ} {y : Spot} {s : Bool} (i nest : ℕ) (u : Bool) → u ≡ (ltb i (getD room candidatesWord 0) && leb (getD room (highestWord i) 0) (w .parameters)) → u ≡ true → y ≡ deeper x 6 → Passing f (set room (plus (x .base) (x .count)) (held (bindingWord (Candidate i)))) after w y nest left s → PassingWith f room after w x i nest left s
+  unfolding spec.candidateDoes
+  with-goes {after} i nest u e n j p ds us o c bs a q d bs′ l t =
+      let v = held (bindingWord (Candidate i)) in
+      let m = e ∙ may-be room (f .terms) us o q i (w .parameters) (t .ready .place .booked .candidates) (t .ready .place .openly) in
+      let t′ = taken-with t 6 i d (first-part (octets "all") (heads .1 .1 .1 .0) (t .framed .stands)) (omega arith) (t .scoped) (allowed-below us o q i (sym m ∙ n)) in
+      let y = passing-at j p ds us o c bs a d (Candidate i ∷ bs′) (omega arith) t′ in
+      record {
+        kept = kept-then room (set room (plus (x .base) (x .count)) v) after (omega arith) (omega (arith, t .framed .shallow)) (push-kept t v) (y .kept);
+        answer = and-yes m n (y .answer);
+      }
+
+  -- the candidates one after the other
+  pub all-start : (nest : ℕ) → AllLeft f room w x nest left room 0
+  unfolding spec.through
+  all-start nest ds us o c bs a q d bs′ l t = (λ i k. refl, refl)
+
+  pub all-miss : {now after : List ℕ} {s : Bool} (nest i n : ℕ) → i < n → n ≡ getD room candidatesWord 0 → AllLeft f room w x nest left now i → length now ≡ length room → PassingWith f now after w x i nest left s → s ≡ false → AllLeft f room w x nest left after (i + 1)
+  unfolding spec.candidatesFrom
+  all-miss {now} {after} nest i n l e inv k p z ds us o c bs a q d bs′ lo t =
+      let (kept, so) = inv ds us o c bs a q d bs′ lo t in
+      let m = p ds us o c bs a q d bs′ lo (taken-kept t kept k) in
+      let b : i < length us = omega (arith, t .ready .place .booked .candidates .counted) in
+      let try : ℕ → Bool = spec.candidateDoes (listed us) o q (passesWith us left o c bs a d bs′) in
+      (kept-then room now after (omega arith) (omega arith) kept (m .kept), so ∙ (any-here try i (length us) b ∙ sym (or-no (m .answer) z refl)))
+
+  pub all-hit : {now after : List ℕ} {s : Bool} (nest i n : ℕ) → i < n → n ≡ getD room candidatesWord 0 → AllLeft f room w x nest left now i → length now ≡ length room → PassingWith f now after w x i nest left s → s ≡ true → PassingAs W.All f room after w x nest left true
+  unfolding spec.candidatesFrom
+  all-hit {now} {after} nest i n l e inv k p z ds us o c bs a d bs′ h =
+      let (q, y, u) = clause-is d h in
+      subst (Claim f room after ds us w x (suc nest) left o c bs a bs′ true) (sym u)
+      (λ lo t.
+      let (kept, so) = inv ds us o c bs a q y bs′ lo t in
+      let m = p ds us o c bs a q y bs′ lo (taken-kept t kept k) in
+      let b : i < length us = omega (arith, t .ready .place .booked .candidates .counted) in
+      let try : ℕ → Bool = spec.candidateDoes (listed us) o q (passesWith us left o c bs a y bs′) in
+      record { kept = kept-then room now after (omega arith) (omega arith) kept (m .kept); answer = or-yes (spec.anyFrom try (i + 1) (length us - (i + 1))) (m .answer) z ∙ sym (so ∙ any-here try i (length us) b) })
+
+  pub all-done : {now : List ℕ} (nest i n : ℕ) → n ≤ i → n ≡ getD room candidatesWord 0 → AllLeft f room w x nest left now i → PassingAs W.All f room now w x nest left false
+  unfolding spec.candidatesFrom
+  all-done {now} nest i n l e inv ds us o c bs a d bs′ h =
+      let (q, y, u) = clause-is d h in
+      subst (Claim f room now ds us w x (suc nest) left o c bs a bs′ false) (sym u)
+      (λ lo t.
+      let (kept, so) = inv ds us o c bs a q y bs′ lo t in
+      let b : length us ≤ i = omega (arith, t .ready .place .booked .candidates .counted) in
+      let try : ℕ → Bool = spec.candidateDoes (listed us) o q (passesWith us left o c bs a y bs′) in
+      record { kept = kept; answer = sym (so ∙ any-none try i (length us) b) })
+
+-- clause k for an atom
+module _ {f : Files} {room after : List ℕ} {w : Where} {left : ℕ} (k : ℕ) where
+  pub by-none : {q : Chosen} → Opened room after k (w .supposed) (w .top) q → q ≡ C.Nothing → ProvingBy f room after w k left false
+  unfolding spec.clauseDoes
+  by-none p e ds us o c bs a r =
+      let (n, same) = opened-none r k (subst (Opened room after k (w .supposed) (w .top)) e p) in
+      record { kept = λ i l. ap (λ (z : List ℕ). getD z i 0) same; answer = ap (λ (m : Option (AtHand Plain)). maybe m false λ d. passes us left o c bs a (d .clause) (d .bindings)) (sym n) }
+
+  pub by-clause : {last : List ℕ} {q : Chosen} {y : Spot} {s : Bool} → Opened room after k (w .supposed) (w .top) q → q ≡ C.Clause y → Passing f after last w y 64 left s → ProvingBy f room last w k left s
+  unfolding spec.clauseDoes
+  by-clause {last} p e m ds us o c bs a r =
+      let z = opened-clause r k (subst (Opened room after k (w .supposed) (w .top)) e p) in
+      let b = m ds us o c bs a (z .clause .clause) (z .clause .bindings) (omega (arith, z .taken .framed .shallow)) (z .taken) in
+      record {
+        kept = kept-then room after last (omega arith) (omega (arith, z .taken .fresh)) (z .kept) (b .kept);
+        answer = b .answer ∙ ap (λ (n : Option (AtHand Plain)). maybe n false λ d. passes us left o c bs a (d .clause) (d .bindings)) (sym (z .there));
+      }
