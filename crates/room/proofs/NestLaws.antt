@@ -77,3 +77,32 @@ module _ (cs : List Term) (shallow : (i : ℕ) (t : Term) → getElem? cs i ≡ 
     pub all-replaced-nest : (bs : Bindings) (ts : Terms) → nestings (termSexps (replaceds cs bs ts)) ≤ nestings (termSexps ts) + 63
     all-replaced-nest bs Terms.nil = omega arith
     all-replaced-nest bs (Terms.cons t ts) = omega (arith, replaced-nests bs t, all-replaced-nest bs ts)
+
+-- the frame of a formula holds at most 63 bindings, as a goal's can, and 62 where the formula stands in a list, as a rule and a clause or body inside a formula do
+pub frame-at-most : (n : ℕ) (g : Goal Plain) → n + nesting (goalSexp g) ≤ levels → n ≤ 63
+frame-at-most n g h = omega (arith, goal-nests g)
+
+pub clause-frame-at-most : (n : ℕ) (d : Clause Plain) → n + nesting (clauseSexp d) < levels → n ≤ 62
+clause-frame-at-most n d h = omega (arith, clause-nests d)
+
+-- from a formula to its parts: a quantifier passed is one binding more and one level less, and any other part is a level less
+pub part-under : (n : ℕ) (g h : Goal Plain) → n + nesting (goalSexp (Goal.and g h)) ≤ levels → (n + nesting (goalSexp g) < levels) × (n + nesting (goalSexp h) < levels)
+part-under n g h b = (omega arith, omega arith)
+
+pub some-under : (n : ℕ) (q : Plain) (g : Goal Plain) → n + nesting (goalSexp (Goal.some q g)) ≤ levels → suc n + nesting (goalSexp g) ≤ levels
+some-under n q g b = omega arith
+
+pub all-under : (n : ℕ) (q : Plain) (g : Goal Plain) → n + nesting (goalSexp (Goal.all q g)) ≤ levels → suc n + nesting (goalSexp g) ≤ levels
+all-under n q g b = omega arith
+
+pub imp-under : (n : ℕ) (d : Clause Plain) (g : Goal Plain) → n + nesting (goalSexp (Goal.imp d g)) ≤ levels → (n + nesting (clauseSexp d) < levels) × (n + nesting (goalSexp g) < levels)
+imp-under n d g b = (omega arith, omega arith)
+
+pub clause-all-under : (n : ℕ) (q : Plain) (d : Clause Plain) → n + nesting (clauseSexp (Clause.allD q d)) < levels → suc n + nesting (clauseSexp d) < levels
+clause-all-under n q d b = omega arith
+
+pub clause-and-under : (n : ℕ) (c d : Clause Plain) → n + nesting (clauseSexp (Clause.andD c d)) < levels → (n + nesting (clauseSexp c) < levels) × (n + nesting (clauseSexp d) < levels)
+clause-and-under n c d b = (omega arith, omega arith)
+
+pub body-under : (n : ℕ) (g : Goal Plain) (a : Atom) → n + nesting (clauseSexp (Clause.impD g a)) < levels → n + nesting (goalSexp g) < levels
+body-under n g a b = omega arith
