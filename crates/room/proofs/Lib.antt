@@ -10,3 +10,4 @@ pub mod RestLaws
 pub mod MoveLaws
 pub mod HighLaws
 pub mod TableLaws
+pub mod AtomLaws
