@@ -7,3 +7,7 @@ pub mod ReadyLaws
 pub mod HandLaws
 pub mod ProvingLaws
 pub mod PassingLaws
+pub mod StripLaws
+pub mod MeaningLaws
+pub mod PaperLaws
+pub mod WrittenLaws

@@ -4,3 +4,4 @@ pub mod Chosen
 pub mod Heads
 pub mod Hand
 pub mod Proving
+pub mod Meaning

@@ -36,8 +36,8 @@ pub data Comes : Type 0 where
   refuses : Reason → File → Comes
 
 -- the first strip of a packet within a height
-unfoldable pub firstOf : ℕ → Books → Option Strip
-firstOf h b = firstAt (listed (b .candidates)) h (root (b .rules) (b .goal))
+unfoldable pub firstStrip : ℕ → Books → Option Strip
+firstStrip h b = firstAt (listed (b .candidates)) h (root (b .rules) (b .goal))
 
 -- 10: the first strip is longer than its buffer or than a file may be
 unfoldable pub unlessLong : ℕ → Strip → Comes
@@ -51,7 +51,7 @@ ofFirst size (some S) = unlessLong size S
 -- the three files in turn
 unfoldable pub ofBooks : ℕ → ℕ → Outcome Books → Comes
 ofBooks h size (Outcome.refused r f at) = Comes.refuses r f
-ofBooks h size (Outcome.sound b) = ofFirst size (firstOf h b)
+ofBooks h size (Outcome.sound b) = ofFirst size (firstStrip h b)
 
 -- 11, then 9, before any file is looked at; `size` is the buffer's, `room` the number of words
 unfoldable pub comesTo : ℕ → ℕ → ℕ → List ℕ → List ℕ → List ℕ → Comes
