@@ -1,4 +1,5 @@
--- Choices that every definition makes: by a test, and by whether there is an answer. Each has the law that takes it apart again.
+-- Choices that every definition makes: by a test, and by whether there is an answer. Those that give an answer, `>>=`, `provided` and `orElse`, have a law that takes them apart again;
+-- `choose` and `maybe` have none, because whoever uses them has the test or the answer to split on.
 use Prim.Native.Nat.{ℕ}
 use mathlib.Core.Path.{_≡_, refl, sym}
 use mathlib.Core.Bool.{Bool, true, false, _&&_, false≢true}

@@ -11,22 +11,22 @@ use Rattle.calculus.specs.Signature.{Signature, IsSequent}
 use Rattle.calculus.specs.Derivation.{Derivation}
 use Rattle.calculus.specs.Uniform.{RightFirst}
 use Rattle.calculus.proofs.Sound.{sound}
-use Rattle.calculus.proofs.Underivable.{Distinct, half, half-itself, half-other}
+use Rattle.calculus.proofs.Underivable.{Distinct, oneFor, one-for-itself, zero-for-others}
 
 module _ {S : Type 0} {Σ : Signature S} (a b : Atom) (n : Distinct a b) where
   -- neither disjunct follows
   no-first : ¬ (Derivation Σ (Formula.or (Formula.atom a) (Formula.atom b) ∷ []) (Formula.atom b))
   no-first d =
-      let h = sound (half (predicateOf a)) d in
-      let x = half-itself (predicateOf a) in
-      let y = half-other (predicateOf a) (predicateOf b) n in
+      let h = sound (oneFor (predicateOf a)) d in
+      let x = one-for-itself (predicateOf a) in
+      let y = zero-for-others (predicateOf a) (predicateOf b) n in
       omega arith
 
   no-second : ¬ (Derivation Σ (Formula.or (Formula.atom a) (Formula.atom b) ∷ []) (Formula.atom a))
   no-second d =
-      let h = sound (half (predicateOf b)) d in
-      let x = half-itself (predicateOf b) in
-      let y = half-other (predicateOf b) (predicateOf a) (λ e. n (sym e)) in
+      let h = sound (oneFor (predicateOf b)) d in
+      let x = one-for-itself (predicateOf b) in
+      let y = zero-for-others (predicateOf b) (predicateOf a) (λ e. n (sym e)) in
       omega arith
 
   pub not-uniform : (d : Derivation Σ (Formula.or (Formula.atom a) (Formula.atom b) ∷ []) (Formula.or (Formula.atom b) (Formula.atom a))) → ¬ (RightFirst d)

@@ -33,16 +33,16 @@ abbrev pub Distinct : Atom → Atom → Type 0
 Distinct a b = ¬ (predicateOf a ≡ predicateOf b)
 
 -- 1 for this symbol, 0 for every other
-pub half : Symbol → Symbol → ℕ
-half x y = choose (sameName (y .0) (x .0) && eqb (y .1) (x .1)) 1 0
+pub oneFor : Symbol → Symbol → ℕ
+oneFor x y = choose (sameName (y .0) (x .0) && eqb (y .1) (x .1)) 1 0
 
-pub half-itself : (x : Symbol) → half x x ≡ 1
-unfolding half
-half-itself x = ap₂ (λ (b c : Bool). choose (b && c) 1 0) (name-same (x .0)) (eq-eqb (x .1) (x .1) refl)
+pub one-for-itself : (x : Symbol) → oneFor x x ≡ 1
+unfolding oneFor
+one-for-itself x = ap₂ (λ (b c : Bool). choose (b && c) 1 0) (name-same (x .0)) (eq-eqb (x .1) (x .1) refl)
 
-pub half-other : (x y : Symbol) → ¬ (x ≡ y) → half x y ≡ 0
-unfolding half
-half-other x y d = go (sameName (y .0) (x .0) && eqb (y .1) (x .1)) refl
+pub zero-for-others : (x y : Symbol) → ¬ (x ≡ y) → oneFor x y ≡ 0
+unfolding oneFor
+zero-for-others x y d = go (sameName (y .0) (x .0) && eqb (y .1) (x .1)) refl
   where
     go : (b : Bool) → (sameName (y .0) (x .0) && eqb (y .1) (x .1)) ≡ b → choose {A = ℕ} b 1 0 ≡ 0
     go true e =
@@ -56,14 +56,14 @@ module _ {S : Type 0} {Σ : Signature S} where
 
   pub no-peirce : (a b : Atom) → Distinct a b → ¬ (Derivation Σ [] (peirce (Formula.atom a) (Formula.atom b)))
   no-peirce a b n d =
-      let h = sound (half (predicateOf a)) d in
-      let e : value {S = S} (half (predicateOf a)) (peirce (Formula.atom a) (Formula.atom b)) ≡ 1 =
-      ap₂ (λ x y. implied (implied (implied x y) x) x) (half-itself (predicateOf a)) (half-other (predicateOf a) (predicateOf b) n) in
+      let h = sound (oneFor (predicateOf a)) d in
+      let e : value {S = S} (oneFor (predicateOf a)) (peirce (Formula.atom a) (Formula.atom b)) ≡ 1 =
+      ap₂ (λ x y. implied (implied (implied x y) x) x) (one-for-itself (predicateOf a)) (zero-for-others (predicateOf a) (predicateOf b) n) in
       omega arith
 
   pub no-either : (a b : Atom) → Distinct a b → ¬ (Derivation Σ [] (either (Formula.atom a) (Formula.atom b)))
   no-either a b n d =
-      let h = sound (half (predicateOf a)) d in
-      let e : value {S = S} (half (predicateOf a)) (either (Formula.atom a) (Formula.atom b)) ≡ 1 =
-      ap₂ (λ x y. max (implied x y) x) (half-itself (predicateOf a)) (half-other (predicateOf a) (predicateOf b) n) in
+      let h = sound (oneFor (predicateOf a)) d in
+      let e : value {S = S} (oneFor (predicateOf a)) (either (Formula.atom a) (Formula.atom b)) ≡ 1 =
+      ap₂ (λ x y. max (implied x y) x) (one-for-itself (predicateOf a)) (zero-for-others (predicateOf a) (predicateOf b) n) in
       omega arith

@@ -27,11 +27,11 @@ pub digit-high : (c : ℕ) → isDigit c ≡ true → c ≤ 57
 unfolding isDigit
 digit-high c e = leb-true c 57 (both-true (leb 48 c) (leb c 57) e .1)
 
--- where there is enough fuel, it does not matter how much
-fuel : (f g n : ℕ) (k : List ℕ) → n < f → n < g → digitsOnto f n k ≡ digitsOnto g n k
-fuel zero g n k h h′ = absurd (omega arith)
-fuel (suc f) zero n k h h′ = absurd (omega arith)
-fuel (suc f) (suc g) n k h h′ = go (ltb n 10) refl (fuel f g (n / 10) ((48 + n % 10) ∷ k))
+-- any bound above n gives the digits of n
+pub above-is-enough : (f g n : ℕ) (k : List ℕ) → n < f → n < g → digitsOnto f n k ≡ digitsOnto g n k
+above-is-enough zero g n k h h′ = absurd (omega arith)
+above-is-enough (suc f) zero n k h h′ = absurd (omega arith)
+above-is-enough (suc f) (suc g) n k h h′ = go (ltb n 10) refl (above-is-enough f g (n / 10) ((48 + n % 10) ∷ k))
   where
     go : (b : Bool) → ltb n 10 ≡ b → (n / 10 < f → n / 10 < g → digitsOnto f (n / 10) ((48 + n % 10) ∷ k) ≡ digitsOnto g (n / 10) ((48 + n % 10) ∷ k)) → digitsOnto (suc f) n k ≡ digitsOnto (suc g) n k
     go true e ih = rw (e, digitsOnto)
@@ -51,7 +51,7 @@ onto-step v d k h h′ =
     rw (le-ltb (v * 10 + d) 10 (omega arith), digitsOnto)
     (ap (λ (x : ℕ). digitsOnto (v * 10 + d) x ((48 + (v * 10 + d) % 10) ∷ k)) (omega arith)
     ∙ ap (λ (x : ℕ). digitsOnto (v * 10 + d) v ((48 + x) ∷ k)) (omega arith)
-    ∙ fuel (v * 10 + d) (suc v) v ((48 + d) ∷ k) (omega arith) (omega arith))
+    ∙ above-is-enough (v * 10 + d) (suc v) v ((48 + d) ∷ k) (omega arith) (omega arith))
 
 -- what holds of one digit, and of one digit more, holds of every number
 pub by-digits : (P : ℕ → Type 0) → ((n : ℕ) → n < 10 → P n) → ((v d : ℕ) → 0 < v → d < 10 → P v → P (v * 10 + d)) → (n : ℕ) → P n

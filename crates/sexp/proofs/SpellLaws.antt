@@ -9,6 +9,7 @@ use lib.Seq.{take-append-seam, drop-append-seam}
 use Rattle.sexp.specs.Decimal.{isDigit}
 use Rattle.sexp.specs.Sexp.{Sexp, Sexps, str, hinted, list, nil, cons, verbatimOnto, spellOnto, spellsOnto, spell, spells}
 use Rattle.sexp.proofs.DecimalLaws.{onto-length, onto-first, decimal-once}
+use Rattle.sexp.proofs.OntoLaws.{spell-onto}
 
 -- how long a string is, and an expression, does not depend on what follows
 pub verbatim-length : (bs k : List ℕ) → length (verbatimOnto bs k) ≡ length (verbatimOnto bs []) + length k
@@ -99,5 +100,5 @@ pub spelling-is-injective : (a b : Sexp) → spell a ≡ spell b → a ≡ b
 spelling-is-injective a b e = spell-once a b [] [] e .0
 
 -- no spelling is a proper beginning of another
-pub no-spelling-begins-another : (a b : Sexp) (rest : List ℕ) → spell b ≡ spellOnto a rest → rest ≡ []
-no-spelling-begins-another a b rest e = sym (spell-once b a [] rest e .1)
+pub no-spelling-begins-another : (a b : Sexp) (rest : List ℕ) → spell b ≡ spell a ++ rest → rest ≡ []
+no-spelling-begins-another a b rest e = sym (spell-once b a [] rest (e ∙ sym (spell-onto a rest)) .1)

@@ -4,7 +4,7 @@ use mathlib.Core.Bool.{Bool, true, false, _&&_}
 use mathlib.Core.List.{List, [], _∷_}
 use lib.Dec.{ltb, leb}
 
--- the digits of n in front of k, where f is above n
+-- the digits of n in front of k, where f is above n: any such f gives the same digits (`above-is-enough`, proofs/DecimalLaws)
 abbrev pub digitsOnto : ℕ → ℕ → List ℕ → List ℕ
 digitsOnto zero n k = k
 digitsOnto (suc f) n k = elim (ltb n 10) [ true ↦ (48 + n) ∷ k | false ↦ digitsOnto f (n / 10) ((48 + n % 10) ∷ k) ]

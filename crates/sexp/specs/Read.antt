@@ -69,6 +69,7 @@ only (xs ∷ s) = elim xs [ nil ↦ none | cons e es ↦ some e ]
 abbrev pub built : List ℕ → Option Sexp
 built bs = only (build (nil ∷ []) bare 0 0 bs)
 
--- the expression, of a file that is one
+-- the expression, of a file that is one. Whether it is one is asked with hints, `true`, so that a hinted string is read whatever the carrier does with it; the limit of nesting, 0, says
+-- nothing here, because what is too deep is an expression all the same and is built alike
 unfoldable pub read : List ℕ → Option Sexp
 read bs = elim (judgement true 0 bs) [ Sound ↦ built bs | Fault o ↦ none | Deep o ↦ built bs ]
