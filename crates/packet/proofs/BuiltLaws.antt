@@ -6,6 +6,7 @@ use mathlib.Core.List.{List, [], _∷_}
 use mathlib.Core.Option.{Option, none, some}
 use native.Mathlib.Omega.{arith}
 use lib.ListN.{length}
+use Rattle.basics.specs.Each.{Each}
 use Rattle.basics.specs.Choice.{choose, orElse}
 use Rattle.basics.specs.Text.{octets}
 use Rattle.harrop.specs.Formula.{Name, Term, Terms, Atom, Goal, Clause, Step, Strip}
@@ -22,7 +23,7 @@ use Rattle.packet.specs.declared.Due.the-variants as D
 use Rattle.packet.specs.Written.{word, one, two, each, number, termSexp, termSexps, atomSexp, goalSexp, clauseSexp, stepSexp, pathSexp, stripSexp, rulesSexp, termsSexp}
 use Rattle.packet.specs.Table.{wordOf, rank, rows, dueAfter, next, mayEnd}
 use Rattle.packet.specs.Wrong.{isStep, isText, Begins, begins, wrong, wrongWord, wrongIn}
-use Rattle.packet.specs.Spells.{NameWords, NumberWords, TermWords, TermsWords, AtomWords, GoalWords, ClauseWords, Each, StepWords, StripWords, Spells}
+use Rattle.packet.specs.Spells.{NameWords, NumberWords, TermWords, TermsWords, AtomWords, GoalWords, ClauseWords, StepWords, StripWords, Spells}
 
 -- nothing is wrong with an expression of a kind, wherever it starts
 pub record Built (k : Kind) (e : Sexp) : Type 0 where

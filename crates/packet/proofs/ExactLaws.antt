@@ -6,6 +6,7 @@ use mathlib.Core.Bool.{Bool, true, false, false≢true}
 use mathlib.Core.List.{List}
 use mathlib.Core.Logic.{_↔_}
 use mathlib.Core.Option.{Option, none, some, Option·some-injective}
+use Rattle.basics.specs.Each.{Each}
 use Rattle.basics.specs.Choice.{maybe, provided, provided-some}
 use Rattle.harrop.specs.Formula.{Term, Atom, Goal, Clause, Step, Strip}
 use Rattle.harrop.specs.Place.{Plain}
@@ -15,7 +16,7 @@ use Rattle.packet.specs.declared.Kind.the-variants as K
 use Rattle.packet.specs.Written.{number, termSexp, atomSexp, goalSexp, clauseSexp, stepSexp, pathSexp, stripSexp, rulesSexp, termsSexp}
 use Rattle.packet.specs.Wrong.{wrong}
 use Rattle.packet.specs.Read.{termOf, atomOf, goalOf, clauseOf, pathOf, stripOf, rulesOf, candidatesOf, built, readAs, asTerm, asAtom, asGoal, asClause, asPath, asStrip, asRules, asCandidates}
-use Rattle.packet.specs.Spells.{NameWords, NumberWords, TermWords, AtomWords, GoalWords, ClauseWords, Each, StepWords, StripWords, Is, Spells}
+use Rattle.packet.specs.Spells.{NameWords, NumberWords, TermWords, AtomWords, GoalWords, ClauseWords, StepWords, StripWords, Is, Spells}
 use Rattle.packet.proofs.ReadLaws.{term-read, atom-read, goal-read, clause-read, path-read, strip-read, rules-read, candidates-read}
 use Rattle.packet.proofs.BuiltLaws.{Built, name-built, number-built, term-built, atom-built, goal-built, clause-built, step-built, path-built, strip-built, rules-built, candidates-built}
 use Rattle.packet.proofs.SpellsLaws.{built-spells}

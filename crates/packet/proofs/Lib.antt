@@ -19,3 +19,4 @@ pub mod OffsetLaws
 pub mod CountLaws
 pub mod JudgedLaws
 pub mod Examples
+pub mod FairLaws

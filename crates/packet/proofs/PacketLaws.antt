@@ -6,6 +6,7 @@ use mathlib.Core.Bool.{Bool, true}
 use mathlib.Core.List.{List, []}
 use mathlib.Core.Logic.{_↔_}
 use mathlib.Core.Option.{Option, none, some}
+use Rattle.basics.specs.Each.{Each}
 use Rattle.basics.specs.Choice.{maybe}
 use Rattle.harrop.specs.Formula.{Term, Goal, Clause, Strip}
 use Rattle.harrop.specs.Place.{Plain}
@@ -20,7 +21,7 @@ use Rattle.packet.specs.declared.File.{File}
 use Rattle.packet.specs.declared.File.the-variants as F
 use Rattle.packet.specs.Written.{rulesSexp, goalSexp, termsSexp, stripSexp}
 use Rattle.packet.specs.Read.{goalOf, rulesOf, candidatesOf, stripOf}
-use Rattle.packet.specs.Spells.{TermWords, GoalWords, ClauseWords, Each, StripWords, Is, Spells}
+use Rattle.packet.specs.Spells.{TermWords, GoalWords, ClauseWords, StripWords, Is, Spells}
 use Rattle.packet.specs.File.{mostLevels, refusalOf, Outcome, andThen, expressionOf, fileOf, Books, Packet, booksOf, packetOf}
 use Rattle.packet.specs.Refusal.{Few, Unbarred, Canonical, Refusal, sound}
 use Rattle.packet.specs.Sound.{SoundFile, GoodRules, GoodGoal, GoodCandidates, GoodStrip, FileMeans, SoundBooks, RefusedBooks, byRules, byGoal, byTerms, BooksMean, SoundPacket, RefusedPacket, byBooks, byStrip, PacketMeans}

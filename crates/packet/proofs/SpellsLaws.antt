@@ -8,6 +8,7 @@ use mathlib.Core.Option.{Option, none, some, Option·some-injective}
 use lib.Dec.{eqb}
 use lib.ListN.{length}
 use borrow.Author.Tests.{eqb-true}
+use Rattle.basics.specs.Each.{Each}
 use Rattle.basics.specs.Choice.{choose, orElse, orElse-none, nope}
 use Rattle.basics.specs.Text.{octets}
 use Rattle.harrop.specs.Formula.{Name, Term, Terms, Atom, Goal, Clause, Step, Strip}
@@ -27,7 +28,7 @@ use Rattle.packet.specs.declared.Due.the-variants as D
 use Rattle.packet.specs.Written.{word, one, two, each, number, termSexp, termSexps, atomSexp, goalSexp, clauseSexp, stepSexp, pathSexp, stripSexp, rulesSexp, termsSexp}
 use Rattle.packet.specs.Table.{words, lookFor, wordOf, rank, Row, rows, look, dueAfter, next, mayEnd}
 use Rattle.packet.specs.Wrong.{isStep, isText, Begins, begins, wrong, wrongWord, wrongIn}
-use Rattle.packet.specs.Spells.{NameWords, NumberWords, TermWords, TermsWords, AtomWords, GoalWords, ClauseWords, Each, StepWords, StripWords, Is, Spells}
+use Rattle.packet.specs.Spells.{NameWords, NumberWords, TermWords, TermsWords, AtomWords, GoalWords, ClauseWords, StepWords, StripWords, Is, Spells}
 
 -- how a word is written; what is none of them has no writing
 unfoldable pub writing : Word → List ℕ

@@ -6,6 +6,7 @@ use mathlib.Core.Bool.{Bool, true}
 use mathlib.Core.List.{List}
 use mathlib.Core.Option.{Option, none, some}
 use lib.ListN.{length}
+use Rattle.basics.specs.Each.{Each}
 use Rattle.harrop.specs.Formula.{Term, Goal, Clause, Strip}
 use Rattle.harrop.specs.Place.{Plain}
 use Rattle.sexp.specs.Sexp.{Sexp, spell, nesting}
@@ -16,7 +17,7 @@ use Rattle.packet.specs.declared.File.{File}
 use Rattle.packet.specs.declared.File.the-variants as F
 use Rattle.packet.specs.Written.{rulesSexp, goalSexp, termsSexp, stripSexp}
 use Rattle.packet.specs.Barred.{termOk, goalOk, clauseOk, eachOk}
-use Rattle.packet.specs.Spells.{TermWords, GoalWords, ClauseWords, Each, StripWords}
+use Rattle.packet.specs.Spells.{TermWords, GoalWords, ClauseWords, StripWords}
 use Rattle.packet.specs.File.{mostBytes, mostLevels, mostMembers, Outcome, Books, Packet}
 use Rattle.packet.specs.Refusal.{Refusal}
 

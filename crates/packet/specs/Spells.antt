@@ -4,6 +4,7 @@ use Prim.Native.Nat.{ℕ, _≤_}
 use mathlib.Core.Path.{_≡_}
 use mathlib.Core.Bool.{true}
 use mathlib.Core.List.{List, [], _∷_}
+use Rattle.basics.specs.Each.{Each}
 use Rattle.harrop.specs.Formula.{Name, Term, Terms, Atom, Goal, Clause, Step, Strip}
 use Rattle.harrop.specs.Place.{Plain}
 use Rattle.sexp.specs.Sexp.{Sexp}
@@ -46,11 +47,6 @@ abbrev mutual
   ClauseWords (Clause.impD g a) = GoalWords g × AtomWords a
   ClauseWords (Clause.allD q d) = ClauseWords d
   ClauseWords (Clause.andD c d) = ClauseWords c × ClauseWords d
-
--- all of a list
-abbrev pub Each : {A : Type 0} → (A → Type 0) → List A → Type 0
-Each P [] = Unit {0}
-Each P (x ∷ xs) = P x × Each P xs
 
 abbrev pub StepWords : Step → Type 0
 StepWords Step.l = Unit {0}
