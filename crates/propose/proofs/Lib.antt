@@ -11,3 +11,6 @@ pub mod StripLaws
 pub mod MeaningLaws
 pub mod PaperLaws
 pub mod WrittenLaws
+pub mod SearchedLaws
+pub mod SpelledLaws
+pub mod Cases

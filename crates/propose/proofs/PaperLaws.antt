@@ -47,20 +47,20 @@ pub file-once : (f g : File) → fileNumber f ≡ fileNumber g → f ≡ g
 file-once f g e = sym (file-back f) ∙ ap (λ (n : ℕ). getD files n F.None) e ∙ file-back g
 
 -- the three numbers of a line
-abbrev firstOf : Paper → ℕ
+abbrev pub firstOf : Paper → ℕ
 firstOf (Paper.found h n l) = h
 firstOf (Paper.refused n f at) = n
 
-abbrev secondOf : Paper → ℕ
+abbrev pub secondOf : Paper → ℕ
 secondOf (Paper.found h n l) = n
 secondOf (Paper.refused n f at) = f
 
-abbrev thirdOf : Paper → ℕ
+abbrev pub thirdOf : Paper → ℕ
 thirdOf (Paper.found h n l) = l
 thirdOf (Paper.refused n f at) = at
 
 -- found or refused
-abbrev kindOf : Paper → ℕ
+abbrev pub kindOf : Paper → ℕ
 kindOf (Paper.found h n l) = 0
 kindOf (Paper.refused n f at) = 1
 

@@ -5,3 +5,5 @@ pub mod Heads
 pub mod Hand
 pub mod Proving
 pub mod Meaning
+pub mod Spelled
+pub mod Cases
