@@ -1,10 +1,10 @@
 -- Which clause is at hand under a number, where it stands, and its bindings copied on top of the stack (document 01, "When a strip fits": clause k is at hand).
-use Prim.Native.Nat.{ℕ, suc, _+_, _-_, _*_, _≤_, _<_}
+use Prim.Native.Nat.{ℕ, suc, _+_, _-_, _≤_, _<_}
 use native.Mathlib.Omega.{arith}
 use mathlib.Core.Path.{_≡_, refl, sym, _∙_, ap, subst}
 use mathlib.Core.Bool.{Bool, true, false}
-use mathlib.Core.List.{List, [], _∷_}
-use mathlib.Core.Option.{Option, none, some}
+use mathlib.Core.List.{List}
+use mathlib.Core.Option.{none, some}
 use lib.Dec.{ltb}
 use lib.ListN.{length, getD, getElem?, take}
 use borrow.Author.Tests.{ltb-true, ltb-false, lt-ltb, le-ltb}
@@ -16,15 +16,15 @@ use Rattle.harrop.proofs.ListLaws.{below-member, beyond-none}
 use Rattle.sexp.specs.Sexp.{Stands, nesting}
 use Rattle.packet.specs.Written.{clauseSexp}
 use Rattle.packet.specs.Barred.{clauseOk}
-use Rattle.room.specs.Layout.{words, levels, rulesWord, ruleWord, stack}
+use Rattle.room.specs.Layout.{levels, rulesWord, ruleWord, stack}
 use Rattle.room.specs.Frame.{bindingsIn, copied}
-use Rattle.room.specs.Spot.{fileOf, bindingsAt, supposedIn, nowhere}
-use Rattle.room.specs.Where.{Files, Live, Kept, Framed, Means}
+use Rattle.room.specs.Spot.{fileOf, bindingsAt, supposedIn}
+use Rattle.room.specs.Where.{Files, Live, Kept, Means}
 use Rattle.room.specs.declared.Source.the-variants as S
 use Rattle.room.specs.declared.Spot.{Spot}
 use Rattle.room.specs.declared.Where.{Where}
 use Rattle.room.proofs.FrameLaws.{frame-copied, copy-kept, copy-length, word-kept}
-use Rattle.propose.specs.Hand.{ruleSpot, clauseIn, reframed, Opened}
+use Rattle.propose.specs.Hand.{ruleSpot, clauseIn, Opened}
 use Rattle.propose.specs.Proving.{Ready, Taken}
 use Rattle.propose.specs.declared.clauses.Chosen.{Chosen}
 use Rattle.propose.specs.declared.clauses.Chosen.the-variants as C

@@ -3,7 +3,7 @@ use Prim.Native.Nat.{ℕ, _+_, _≤_}
 use native.Mathlib.Omega.{arith}
 use mathlib.Core.Path.{_≡_, refl, sym, _∙_, ap, subst}
 use mathlib.Core.Bool.{Bool, true, false, false≢true}
-use mathlib.Core.List.{List, [], _∷_}
+use mathlib.Core.List.{List}
 use lib.ListN.{length, drop}
 use lib.Seq.{drop-drop}
 use Rattle.basics.specs.Text.{octets}
@@ -13,15 +13,14 @@ use Rattle.sexp.specs.declared.skip.After.{After}
 use Rattle.sexp.specs.declared.skip.After.the-variants as A
 use Rattle.sexp.specs.Decimal.{decimalOnto}
 use Rattle.sexp.specs.Sexp.{Sexp, Sexps, Stands, StandsAll, spell, nesting}
-use Rattle.sexp.specs.Past.{Ends, PastAt}
+use Rattle.sexp.specs.Past.{PastAt}
 use Rattle.sexp.proofs.StandLaws.{members-stand, first-stands, others-stand}
 use Rattle.sexp.proofs.FoundLaws.{ends-here}
 use Rattle.packet.specs.declared.Word.{Word}
-use Rattle.packet.specs.declared.Word.the-variants as W
 use Rattle.packet.specs.Table.{wordOf, dueAfter, rows, rank}
 use Rattle.packet.specs.WordAt.{WordAt}
 use Rattle.packet.proofs.WordLaws.{word-is}
-use Rattle.packet.specs.Written.{word, one, two, goalSexp, clauseSexp}
+use Rattle.packet.specs.Written.{word, goalSexp, clauseSexp}
 use Rattle.packet.specs.declared.Kind.the-variants as K
 use Rattle.packet.specs.declared.table.Row.{Row}
 use Rattle.packet.specs.declared.table.Row.the-variants as R

@@ -1,13 +1,13 @@
 -- Whether a path through a clause ends at an atom, with a proof of the body if there is one: by the clause's word, what the answers for its parts say of it (document 01, "When a strip fits", "Which strip the search writes").
 -- Each law ends in the contract of a function of src/provable.
-use Prim.Native.Nat.{ℕ, suc, _+_, _*_, _-_, _≤_, _<_, min}
+use Prim.Native.Nat.{ℕ, suc, _+_, _-_, _≤_, _<_}
 use native.Mathlib.Omega.{arith}
 use mathlib.Core.Path.{_≡_, refl, sym, _∙_, ap, ap₂, subst}
-use mathlib.Core.Bool.{Bool, true, false, _&&_, _||_}
-use mathlib.Core.List.{List, [], _∷_}
-use mathlib.Core.Option.{Option, none, some}
+use mathlib.Core.Bool.{Bool, true, false, _&&_}
+use mathlib.Core.List.{List, _∷_}
+use mathlib.Core.Option.{Option}
 use lib.Dec.{ltb, leb}
-use lib.ListN.{length, getD, getElem?, drop, set, length-set}
+use lib.ListN.{length, getD, drop, set, length-set}
 use Rattle.basics.specs.Choice.{maybe}
 use Rattle.basics.specs.Text.{octets}
 use Rattle.harrop.specs.declared.Binding.the-variants.{Candidate}
@@ -26,19 +26,18 @@ use Rattle.packet.specs.declared.table.Row.the-variants as R
 use Rattle.packet.specs.Rows.{rowOf}
 use Rattle.packet.specs.Table.{dueAfter}
 use Rattle.packet.specs.Barred.{goalOk, atomOk, clauseOk}
-use Rattle.packet.specs.Written.{atomSexp, goalSexp, clauseSexp}
-use Rattle.room.specs.Layout.{levels, candidatesWord, highestWord}
+use Rattle.packet.specs.Written.{goalSexp, clauseSexp}
+use Rattle.room.specs.Layout.{candidatesWord, highestWord}
 use Rattle.room.specs.Frame.{bindingWord, held, bindingsIn}
-use Rattle.room.specs.Spot.{fileOf, bindingsAt}
-use Rattle.room.specs.Term.{AtomAt, SameAtoms}
-use Rattle.room.specs.Where.{Files, Kept, Framed, Means, plus, further}
+use Rattle.room.specs.Term.{SameAtoms}
+use Rattle.room.specs.Where.{Files, Kept, Framed, plus, further}
 use Rattle.room.specs.declared.Spot.{Spot}
 use Rattle.room.specs.declared.Where.{Where}
-use Rattle.room.proofs.FrameLaws.{frame-length, frame-pushed}
+use Rattle.room.proofs.AtomLaws.{same-there}
+use Rattle.room.proofs.FrameLaws.{frame-pushed}
 use Rattle.room.proofs.NestLaws.{clause-nests}
 use Rattle.room.proofs.WhereLaws.{kept-then, kept-less, framed-kept, file-small, plus-inside, push-keeps}
 use Rattle.room.proofs.MoveLaws.{hand-higher}
-use Rattle.propose.specs.Heads.{clauseWord}
 use Rattle.propose.specs.Hand.{deeper, Opened}
 use Rattle.propose.specs.Provable as spec
 use Rattle.propose.specs.Proving.{Ready, Taken, Answers, Proving, ProvingBy, Passing, PassingAs, PassingWith, passes, passesWith}
@@ -49,15 +48,6 @@ use Rattle.propose.proofs.HeadLaws.{clause-says, clause-is, clause-has-
 use Rattle.propose.proofs.ReadyLaws.{may-be, allowed-below, ready-kept}
 use Rattle.propose.proofs.HandLaws.{opened-none, opened-clause}
 use Rattle.propose.proofs.ProvingLaws.{bytesAt, and-no, and-yes, or-yes, or-no, proving-at, both-of}
-
--- how many bindings a frame has
-pub frame-counts : {f : Files} {room : List ℕ} {x : Spot} {top : ℕ} {e : Sexp} {bs : Bindings} → Framed f room x top e bs → length bs ≡ x .count
-frame-counts {room = room} {x = x} h = ap length (sym (h .holds)) ∙ frame-length room (x .base) (x .count)
-
--- an atom with its frame
-pub atom-at : {f : Files} {room : List ℕ} {x : Spot} {top : ℕ} {bs : Bindings} (a : Atom) → Framed f room x top (atomSexp a) bs → atomOk (length bs) a ≡ true → AtomAt (f .rules) (f .goal) (f .terms) x a
-atom-at {x = x} a h ok =
-    record { stands = h .stands; shallow = omega (arith, h .shallow); few = omega (arith, h .shallow); ok = subst (λ (n : ℕ). atomOk n a ≡ true) (frame-counts h) ok }
 
 module _ {f : Files} {room : List ℕ} {ds : List (Clause Plain)} {us : List Term} {w : Where} {x : Spot} {left : ℕ} {o : List Plain} {c : Hand Plain} {bs : Bindings} {a : Atom} {d : Clause Plain} {bs′ : Bindings} (t : Taken f room ds us w x left o c bs a d bs′) where
   -- a part of what stands there
@@ -186,9 +176,7 @@ module _ {f : Files} {room : List ℕ} {w : Where} {x : Spot} {left : ℕ} where
       let m = t .ready .place in
       record {
         kept = λ i k. refl;
-        answer =
-            p us b a (m .booked .candidates) (atom-at b (t .framed) (t .scoped)) (atom-at a (m .framed) (m .scoped))
-            ∙ ap₂ (λ (u : Bindings) (v : Bindings). sameAtom (replacedAtom us u b) (replacedAtom us v a)) (t .framed .holds) (m .framed .holds);
+        answer = same-there us b a s p (m .booked .candidates) (t .framed) (t .scoped) (m .framed) (m .scoped);
       })
 
   -- a goal that implies an atom
@@ -205,8 +193,7 @@ module _ {f : Files} {room : List ℕ} {w : Where} {x : Spot} {left : ℕ} where
   imp-atom {us = us} {a = a} {g = g} {b = b} {bs′ = bs′} {n = n} {s = s} t p e i k =
       let m = t .ready .place in
       let fr = part-framed t n (second-found (octets "imp") (heads .1 .1 .1 .1) (t .framed .stands) p e) (omega arith) in
-      subst (λ (z : Spot). SameAtoms (f .rules) (f .goal) (f .terms) room z (w .goal) s) i k us b a (m .booked .candidates) (atom-at b fr (both-of (goalOk (length bs′) g) (atomOk (length bs′) b) (t .scoped) .1)) (atom-at a (m .framed) (m .scoped))
-      ∙ ap₂ (λ (u : Bindings) (v : Bindings). sameAtom (replacedAtom us u b) (replacedAtom us v a)) (t .framed .holds) (m .framed .holds)
+      same-there us b a s (subst (λ (z : Spot). SameAtoms (f .rules) (f .goal) (f .terms) room z (w .goal) s) i k) (m .booked .candidates) fr (both-of (goalOk (length bs′) g) (atomOk (length bs′) b) (t .scoped) .1) (m .framed) (m .scoped)
 
   pub imp-other : {q : After} {n : ℕ} {y : Spot} {s : Bool} (nest : ℕ) → PastAt (drop (x .at) (bytesAt f x)) 6 64 q → q ≡ A.Next n → y ≡ further x n → SameAtoms (f .rules) (f .goal) (f .terms) room y (w .goal) s → s ≡ false → PassingAs W.Imp f room room w x nest left false
   unfolding spec.through spec.ending

@@ -1,6 +1,6 @@
 -- Whether a goal has a proof, by its word: what the answers for its parts say of it, and that what its place relies on is kept (document 01, "Which strip the search writes").
 -- Each law ends in the contract of a function of src/provable.
-use Prim.Native.Nat.{ℕ, suc, _+_, _-_, _≤_, _<_, min}
+use Prim.Native.Nat.{ℕ, suc, _+_, _-_, _≤_, _<_}
 use native.Mathlib.Omega.{arith}
 use mathlib.Core.Path.{_≡_, refl, sym, _∙_, ap, subst}
 use mathlib.Core.Bool.{Bool, true, false, _&&_, _||_}
@@ -12,7 +12,7 @@ use Rattle.basics.specs.Text.{octets}
 use Rattle.harrop.specs.declared.Binding.the-variants.{Candidate, Parameter}
 use Rattle.harrop.specs.Formula.{Term, Atom, Goal, Clause}
 use Rattle.harrop.specs.Bindings.{Bindings}
-use Rattle.harrop.specs.Place.{Hand, Plain, listed, allowed}
+use Rattle.harrop.specs.Place.{Hand, Plain, listed}
 use Rattle.sexp.specs.declared.skip.After.{After}
 use Rattle.sexp.specs.declared.skip.After.the-variants as A
 use Rattle.sexp.specs.Past.{PastAt}
@@ -30,9 +30,8 @@ use Rattle.room.specs.Spot.{fileOf, supposing}
 use Rattle.room.specs.Where.{Files, Kept, plus, further, within, bound, supposes}
 use Rattle.room.specs.declared.Spot.{Spot}
 use Rattle.room.specs.declared.Where.{Where}
-use Rattle.room.proofs.WhereLaws.{kept-then, kept-less, push-keeps}
+use Rattle.room.proofs.WhereLaws.{kept-then, push-keeps}
 use Rattle.room.proofs.MoveLaws.{suppose-keeps}
-use Rattle.propose.specs.Heads.{goalWord}
 use Rattle.propose.specs.Provable as spec
 use Rattle.propose.specs.Proving.{Ready, Answers, Proving, ProvingAs, ProvingWith, ProvingBy, provesWith}
 use Rattle.propose.proofs.WalkLaws.{any-here, any-none}

@@ -1,7 +1,7 @@
 -- From a place that is ready for a search to the places of its parts, with one less of the height, and back after a call (document 01, "When a strip fits"; "the height left falls at each turn").
-use Prim.Native.Nat.{ℕ, suc, _+_, _*_, _≤_, _<_, min}
+use Prim.Native.Nat.{ℕ, suc, _+_, _≤_, _<_}
 use native.Mathlib.Omega.{arith}
-use mathlib.Core.Path.{_≡_, refl, sym, _∙_, ap, subst}
+use mathlib.Core.Path.{_≡_, refl, sym, _∙_, ap}
 use mathlib.Core.Bool.{Bool, true, false, _&&_}
 use mathlib.Core.List.{List, [], _∷_, _++_}
 use mathlib.Core.Option.{Option, none, some}
@@ -9,7 +9,7 @@ use lib.Dec.{ltb, leb}
 use lib.ListN.{length, getD, getElem?, set, length-set}
 use lib.Seq.{sets, length-sets}
 use borrow.Author.Tests.{ltb-true, ltb-false, lt-ltb, le-ltb}
-use Rattle.basics.specs.Choice.{both-true, nope}
+use Rattle.basics.specs.Choice.{nope}
 use Rattle.harrop.specs.declared.Binding.the-variants.{Candidate, Parameter}
 use Rattle.harrop.specs.Formula.{Term, Goal, Clause}
 use Rattle.harrop.specs.Bindings.{Bindings, highest}
@@ -18,11 +18,11 @@ use Rattle.harrop.proofs.ListLaws.{member-below, below-member}
 use Rattle.sexp.specs.Sexp.{Stands, nesting}
 use Rattle.packet.specs.Written.{goalSexp, clauseSexp}
 use Rattle.packet.specs.Barred.{goalOk, clauseOk}
-use Rattle.room.specs.Layout.{words, levels, candidatesWord, highestWord, supposedWord, supposedAtMost, Enough}
+use Rattle.room.specs.Layout.{words, candidatesWord, highestWord, supposedWord, supposedAtMost}
 use Rattle.room.specs.Frame.{bindingWord, held}
 use Rattle.room.specs.Spot.{spotWords, supposing}
 use Rattle.room.specs.Table.{CandidatesIn}
-use Rattle.room.specs.Where.{Files, Kept, Means, further, within, bound, supposes}
+use Rattle.room.specs.Where.{Files, Kept, further, within, bound, supposes}
 use Rattle.room.specs.declared.Where.{Where}
 use Rattle.room.proofs.FileLaws.{supposing-some}
 use Rattle.room.proofs.WhereLaws.{file, part-means, means-kept}
