@@ -223,7 +223,7 @@ pub refused-files : (n : ℕ) (rs gs ts ss : List ℕ) → words ≤ n → (r : 
 refused-files n rs gs ts ss l r f at h = room-enough n rs gs ts ss l ∙ ap filesVerdict (packet-only rs gs ts ss (Outcome.refused r f at) h)
 
 -- from "accepted" alone: a uniform derivation of Figure 1 without cut, rules on the left in any order and goal on the right
-pub record Derived (rs gs ts : List ℕ) : Type 0 where
+pub record Derived (rs gs ts : List ℕ) : Type 1 where
   pub books : Books
   pub read : SoundBooks rs gs ts books
   pub derived : (Γ : List (Formula Plain)) → Γ ≈ map clauseFormula (books .rules) → UniformProof (packetSignature (books .rules) (books .goal) (books .candidates)) Γ (goalFormula (books .goal))

@@ -44,11 +44,13 @@ fn open_books(rules: &[u8], terms: &[u8], room: &mut [u32]) -> Books
 fn read_files(books: Books, goal: &[u8], strip: &[u8]) -> Read
     ensures { λ r. ⌜ ReadsAll (now (goal .entry)) (now (strip .entry)) books r ⌝ }
 {
-    match books.rules {
+    let first = books.rules;
+    let third = books.terms;
+    match first {
         Judged::Refused(why, at) => Read::Refused(why, File::Rules, at),
         Judged::Sound(n) => match judge_file(goal, Kind::Goal) {
             Judged::Refused(why, at) => Read::Refused(why, File::Goal, at),
-            Judged::Sound(_) => match books.terms {
+            Judged::Sound(_) => match third {
                 Judged::Refused(why, at) => Read::Refused(why, File::Terms, at),
                 Judged::Sound(m) => match judge_file(strip, Kind::Strip) {
                     Judged::Refused(why, at) => Read::Refused(why, File::Strip, at),
