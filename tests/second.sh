@@ -27,3 +27,4 @@ stored_parts() {
 
 stored carrier_cases carrier
 stored_parts packet_cases packet
+stored_parts judge_cases judge

@@ -98,7 +98,7 @@ fn higher(a: usize, b: usize) -> usize
     if a < b { b } else { a }
 }
 
-fn node<'a>(
+pub(crate) fn node<'a>(
     rules: &'a [u8],
     goal: &'a [u8],
     terms: &'a [u8],

@@ -1,0 +1,108 @@
+// Judges every packet of two files of judge cases (second/README.md: four files, each a string) and prints one line for each. The cases and the lines that are
+// expected come from the second program alone.
+use judge::Verdict;
+use libc::STDOUT_FILENO;
+use sexp::Octets;
+ghost use Prim.Native.Nat.{_<_, _≤_};
+ghost use lib.ListN.{length};
+ghost use Rattle.io.specs.Counts.{Counts};
+
+// A part of the case file.
+struct Part {
+    from: usize,
+    to: usize,
+}
+
+// Reads a file whole, as far as the buffer goes; a missing one counts as empty.
+fn load(path: &[u8], buf: &mut [u8]) -> usize
+    ensures { λ r. ⌜ Counts r (now (buf .exit)) ⌝ }
+{
+    let fd = os::open_read(path);
+    if fd < 0 {
+        return 0;
+    }
+    let n = io::read_full(fd, buf);
+    libc::close(fd);
+    n
+}
+
+// The string at an offset; where none stands, nothing up to the end.
+fn string(s: &[u8], at: usize) -> Part
+    requires { ⌜ at ≤ length (now s) ⌝ }
+    ensures { λ r. ⌜ (at ≤ r .to) × ((r .from ≤ r .to) × (r .to ≤ length (now (s .entry)))) ⌝ }
+{
+    match sexp::plain(s, at) {
+        Octets::Nothing => Part {
+            from: s.len(),
+            to: s.len(),
+        },
+        Octets::Span(from, n) => Part { from, to: from + n },
+    }
+}
+
+fn number(n: u64) {
+    io::write_all(STDOUT_FILENO, b" ");
+    io::print_decimal(STDOUT_FILENO, n);
+}
+
+fn show(v: Verdict) {
+    match v {
+        Verdict::Accepted { height, nodes } => {
+            io::write_all(STDOUT_FILENO, b"accepted");
+            number(height as u64);
+            number(nodes as u64);
+        }
+        Verdict::Refused {
+            reason,
+            file,
+            place,
+        } => {
+            io::write_all(STDOUT_FILENO, b"refused");
+            number(packet::reason_number(reason) as u64);
+            number(packet::file_number(file) as u64);
+            number(place as u64);
+        }
+    }
+    io::write_all(STDOUT_FILENO, b"\n");
+}
+
+// Judges the case at an offset, and answers where the next one starts.
+fn case(s: &[u8], at: usize, room: &mut [u32]) -> usize
+    requires { ⌜ at < length (now s) ⌝ }
+    ensures { λ r. ⌜ at ≤ r ⌝ }
+{
+    let rules = string(s, at);
+    let b = rules.from;
+    let c = rules.to;
+    let goal = string(s, c);
+    let d = goal.from;
+    let e = goal.to;
+    let terms = string(s, e);
+    let f = terms.from;
+    let g = terms.to;
+    let strip = string(s, g);
+    let h = strip.from;
+    let i = strip.to;
+    show(judge::judge(&s[b..c], &s[d..e], &s[f..g], &s[h..i], room));
+    i
+}
+
+fn cases(s: &[u8], room: &mut [u32]) {
+    let mut at = 0;
+    while at < s.len() {
+        let next = case(s, at, room);
+        if next <= at {
+            return;
+        }
+        at = next;
+    }
+}
+
+fn main() {
+    let mut buf = [0u8; 786432];
+    let mut room = [0u32; 8192];
+    let n = load(b"cases1", &mut buf);
+    cases(&buf[..n], &mut room);
+    let m = load(b"cases2", &mut buf);
+    cases(&buf[..m], &mut room);
+}
