@@ -36,7 +36,13 @@ fn clear(room: &mut [u32])
 }
 
 // The verdict on four files, for any bytes and any room. The files are not written; the room is zero afterwards, or as it came if it is too short.
-pub fn judge<'a>(rules: &'a [u8], goal: &'a [u8], terms: &'a [u8], strip: &'a [u8], room: &mut [u32]) -> Verdict
+pub fn judge<'a>(
+    rules: &'a [u8],
+    goal: &'a [u8],
+    terms: &'a [u8],
+    strip: &'a [u8],
+    room: &mut [u32],
+) -> Verdict
     ensures { λ r. ⌜ Judgement (now (rules .entry)) (now (goal .entry)) (now (terms .entry)) (now (strip .entry)) (now (room .entry)) (now (room .exit)) r ⌝ }
 {
     if room.len() < 8192 {

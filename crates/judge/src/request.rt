@@ -79,7 +79,13 @@ fn first_place() -> Where
 }
 
 // The strip of a packet that is read, judged from the root place on.
-fn judge_strip<'a>(rules: &'a [u8], goal: &'a [u8], terms: &'a [u8], strip: &[u8], room: &mut [u32]) -> Verdict
+fn judge_strip<'a>(
+    rules: &'a [u8],
+    goal: &'a [u8],
+    terms: &'a [u8],
+    strip: &[u8],
+    room: &mut [u32],
+) -> Verdict
     ensures { λ r. ⌜ Stripping (now (rules .entry)) (now (goal .entry)) (now (terms .entry)) (now (strip .entry)) (now (room .entry)) (now (room .exit)) r ⌝ }
 {
     match node(rules, goal, terms, strip, 0, room, first_place(), 64) {
