@@ -9,7 +9,8 @@ use Rattle.harrop.specs.Place.{Plain}
 use Rattle.packet.specs.declared.Kind.the-variants as K
 use Rattle.packet.specs.declared.files.Read.{Read}
 use Rattle.packet.specs.Written.{rulesSexp, termsSexp}
-use Rattle.packet.specs.Spells.{Each, ClauseWords, TermWords}
+use Rattle.basics.specs.Each.{Each}
+use Rattle.packet.specs.Spells.{ClauseWords, TermWords}
 use Rattle.packet.specs.Sound.{SoundFile, GoodRules, GoodCandidates, SoundPacket}
 use Rattle.packet.specs.File.{Packet, packetOf}
 use Rattle.packet.specs.Judged.{judgedOf, packetRead}

@@ -15,7 +15,8 @@ use Rattle.harrop.proofs.PlaceLaws.{may-below}
 use Rattle.harrop.proofs.HeightLaws.{no-strip-within-0}
 use Rattle.sexp.specs.Sexp.{Sexp, Sexps, nesting, nestings}
 use Rattle.packet.specs.Written.{each, stepSexp, pathSexp, stripSexp}
-use Rattle.packet.specs.Spells.{Each, StepWords, StripWords}
+use Rattle.basics.specs.Each.{Each}
+use Rattle.packet.specs.Spells.{StepWords, StripWords}
 
 module _ {Q : Type 0} (cs : Candidates Q) (few : length (cs .terms) ≤ 1000) where
   pub path-words : {o : List Q} {d : Clause Q} {bs : Bindings} {path : List Step} {x : End Q} → Reaches cs o d bs path x → Each StepWords path
