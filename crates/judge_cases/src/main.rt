@@ -66,8 +66,14 @@ fn show(v: Verdict) {
     io::write_all(STDOUT_FILENO, b"\n");
 }
 
+// Judges one packet with a room of its own.
+fn judged(rules: &[u8], goal: &[u8], terms: &[u8], strip: &[u8]) {
+    let mut room = [0u32; 8192];
+    show(judge::judge(rules, goal, terms, strip, &mut room));
+}
+
 // Judges the case at an offset, and answers where the next one starts.
-fn case(s: &[u8], at: usize, room: &mut [u32]) -> usize
+fn case(s: &[u8], at: usize) -> usize
     requires { ⌜ at < length (now s) ⌝ }
     ensures { λ r. ⌜ at ≤ r ⌝ }
 {
@@ -83,14 +89,14 @@ fn case(s: &[u8], at: usize, room: &mut [u32]) -> usize
     let strip = string(s, g);
     let h = strip.from;
     let i = strip.to;
-    show(judge::judge(&s[b..c], &s[d..e], &s[f..g], &s[h..i], room));
+    judged(&s[b..c], &s[d..e], &s[f..g], &s[h..i]);
     i
 }
 
-fn cases(s: &[u8], room: &mut [u32]) {
+fn cases(s: &[u8]) {
     let mut at = 0;
     while at < s.len() {
-        let next = case(s, at, room);
+        let next = case(s, at);
         if next <= at {
             return;
         }
@@ -100,9 +106,8 @@ fn cases(s: &[u8], room: &mut [u32]) {
 
 fn main() {
     let mut buf = [0u8; 786432];
-    let mut room = [0u32; 8192];
     let n = load(b"cases1", &mut buf);
-    cases(&buf[..n], &mut room);
+    cases(&buf[..n]);
     let m = load(b"cases2", &mut buf);
-    cases(&buf[..m], &mut room);
+    cases(&buf[..m]);
 }
