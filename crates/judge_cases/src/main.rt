@@ -67,7 +67,7 @@ fn show(v: Verdict) {
 }
 
 // Judges one packet with a room of its own.
-fn judged(rules: &[u8], goal: &[u8], terms: &[u8], strip: &[u8]) {
+fn judged<'a>(rules: &'a [u8], goal: &'a [u8], terms: &'a [u8], strip: &'a [u8]) {
     let mut room = [0u32; 8192];
     show(judge::judge(rules, goal, terms, strip, &mut room));
 }
