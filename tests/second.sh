@@ -7,6 +7,8 @@ command -v cargo > /dev/null || { echo 'no cargo here: the second program is not
 cargo test --release --quiet
 cargo build --release --quiet
 second=target/release/second
+whole=$(mktemp)
+trap 'rm -f "$whole"' EXIT
 
 # The cases in a program's data/ and the answers in its stdout.
 stored() {
@@ -20,6 +22,15 @@ stored_parts() {
   for part in 1 2; do "$second" "$2-answers" < "../crates/$1/data/cases$part"; done | cmp - "../crates/$1/stdout"
 }
 
+# The same where each part is stored in two files, one after the other.
+stored_halves() {
+  "$second" "$2-cases" 1 > "$whole"
+  cat "../crates/$1/data/cases1" "../crates/$1/data/cases2" | cmp - "$whole"
+  "$second" "$2-cases" 2 > "$whole"
+  cat "../crates/$1/data/cases3" "../crates/$1/data/cases4" | cmp - "$whole"
+  for part in 1 2 3 4; do "$second" "$2-answers" < "../crates/$1/data/cases$part"; done | cmp - "../crates/$1/stdout"
+}
+
 "$second" carrier-cases | "$second" carrier-counts
 { "$second" packet-cases 1; "$second" packet-cases 2; } | "$second" packet-counts
 { "$second" judge-cases 1; "$second" judge-cases 2; } | "$second" judge-counts
@@ -27,4 +38,4 @@ stored_parts() {
 
 stored carrier_cases carrier
 stored_parts packet_cases packet
-stored_parts judge_cases judge
+stored_halves judge_cases judge

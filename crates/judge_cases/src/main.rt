@@ -105,9 +105,13 @@ fn cases(s: &[u8]) {
 }
 
 fn main() {
-    let mut buf = [0u8; 786432];
-    let n = load(b"cases1", &mut buf);
-    cases(&buf[..n]);
-    let m = load(b"cases2", &mut buf);
+    let mut buf = [0u8; 393216];
+    let k = load(b"cases1", &mut buf);
+    cases(&buf[..k]);
+    let l = load(b"cases2", &mut buf);
+    cases(&buf[..l]);
+    let m = load(b"cases3", &mut buf);
     cases(&buf[..m]);
+    let n = load(b"cases4", &mut buf);
+    cases(&buf[..n]);
 }
