@@ -1,0 +1,71 @@
+// The tokens of TPTP's `fof` lines (document 02, request One).
+
+// The kinds of token. The signs are named after what they say in a formula.
+pub enum Kind {
+    // a word that starts with a small letter: fof, axiom, isShut
+    Lower,
+    // a word that starts with a capital: X, Pipe_1
+    Upper,
+    // text in single quotes, at least one character: 'a b'
+    Quoted,
+    // a distinct object, text in double quotes: "a b"
+    Distinct,
+    // a dollar word: $true
+    Dollar,
+    // a word with two dollars: $$own
+    DoubleDollar,
+    // 0, -12
+    Integer,
+    // 1/2
+    Rational,
+    // 1.5, 1e10
+    Real,
+    // (
+    OpenParen,
+    // )
+    CloseParen,
+    // [
+    OpenBracket,
+    // ]
+    CloseBracket,
+    // {
+    OpenBrace,
+    // }
+    CloseBrace,
+    // ,
+    Comma,
+    // .
+    Dot,
+    // :
+    Colon,
+    // -
+    Minus,
+    // !
+    ForAll,
+    // ?
+    Exists,
+    // ~
+    Not,
+    // &
+    And,
+    // |
+    Or,
+    // =
+    Equal,
+    // !=
+    Unequal,
+    // =>
+    Implies,
+    // <=
+    ImpliedBy,
+    // <=>
+    Iff,
+    // <~>
+    Xor,
+    // ~|
+    Nor,
+    // ~&
+    Nand,
+    // -->
+    Sequent,
+}
