@@ -13,9 +13,9 @@ use Rattle.harrop.specs.Bindings.{Bindings, replacedAtom, sameAtom}
 use Rattle.harrop.specs.Place.{Candidates, AtHand, Hand, End, allowed}
 use Rattle.harrop.specs.Search.{firstFrom, firstCandidate, firstPath, atEnd, first}
 use Rattle.harrop.proofs.SilentLaws.{tried}
-use Rattle.propose.specs.Provable.{isSome, candidateDoes, through, ending, clauseDoes, provable, serves}
+use Rattle.provable.specs.Provable.{isSome, candidateDoes, through, ending, clauseDoes, provable, serves}
 use Rattle.propose.specs.Chosen.{firstYes, stepping, usedAt, candidateFrom, clauseFrom, way}
-use Rattle.propose.proofs.ProvableLaws.{dressed-is, tested-is, path-is, end-is, clause-is, provable-is}
+use Rattle.provable.proofs.ProvableLaws.{dressed-is, tested-is, path-is, end-is, clause-is, provable-is}
 
 -- where there is no answer
 silent : {A : Type 0} (o : Option A) (t : Bool) → isSome o ≡ t → t ≡ false → o ≡ none

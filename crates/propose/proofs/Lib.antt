@@ -1,12 +1,5 @@
-pub mod ProvableLaws
-pub mod WalkLaws
 pub mod ChosenLaws
 pub mod TakenLaws
-pub mod HeadLaws
-pub mod ReadyLaws
-pub mod HandLaws
-pub mod ProvingLaws
-pub mod PassingLaws
 pub mod StripLaws
 pub mod MeaningLaws
 pub mod PaperLaws

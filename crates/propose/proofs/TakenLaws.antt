@@ -15,7 +15,7 @@ use Rattle.harrop.specs.Place.{Candidates, AtHand, Hand, End, allowed}
 use Rattle.harrop.specs.Search.{first}
 use Rattle.harrop.proofs.ListLaws.{member-below}
 use Rattle.harrop.proofs.SearchLaws.{dressed-some}
-use Rattle.propose.specs.Provable.{candidateDoes, through, clauseDoes, provable, serves}
+use Rattle.provable.specs.Provable.{candidateDoes, through, clauseDoes, provable, serves}
 use Rattle.propose.specs.Chosen.{firstYes, stepping, usedAt, candidateFrom, clauseFrom, way}
 use Rattle.propose.proofs.ChosenLaws.{first-atom, first-or, first-some}
 

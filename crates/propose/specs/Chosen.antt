@@ -10,7 +10,7 @@ use Rattle.harrop.specs.declared.Binding.the-variants.{Candidate}
 use Rattle.harrop.specs.Formula.{Clause, Step, Strip, Goal}
 use Rattle.harrop.specs.Bindings.{Bindings}
 use Rattle.harrop.specs.Place.{Candidates, Hand, End}
-use Rattle.propose.specs.Provable.{candidateDoes, clauseDoes, through}
+use Rattle.provable.specs.Provable.{candidateDoes, clauseDoes, through}
 
 -- the first of i, i + 1, .., n of them, that answers yes
 unfoldable pub firstYes : (ℕ → Bool) → ℕ → ℕ → Option ℕ

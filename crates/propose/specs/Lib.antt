@@ -1,9 +1,5 @@
 pub mod Proposed
-pub mod Provable
 pub mod Chosen
-pub mod Heads
-pub mod Hand
-pub mod Proving
 pub mod Meaning
 pub mod Spelled
 pub mod Cases

@@ -1,6 +1,4 @@
 // The search: with rules, goal, terms and a height, the first strip within the height, or the word that there is none (document 01, "Which strip the search writes", "What comes back").
-mod clauses;
-mod provable;
 
 use packet::File;
 use packet::Reason;

@@ -12,56 +12,56 @@ use Rattle.packet.specs.Table.{rows, rank}
 use Rattle.packet.proofs.TableLaws.{no-row}
 use Rattle.room.specs.Frame.{bindingWord, held}
 use Rattle.room.specs.Where.{filesOf}
-use Rattle.propose.proofs.ProvingLaws as laws
-use Rattle.propose.proofs.PassingLaws as passing
+use Rattle.provable.proofs.ProvingLaws as laws
+use Rattle.provable.proofs.PassingLaws as passing
 use borrow.Fn.Kinds.{In}
 use borrow.Fn.PlainCycle.{Measures, is, falls, and}
-use Rattle.propose.proofs.provable.prove_all.Reads as prove-all
-use Rattle.propose.proofs.provable.prove_all.Kinds as prove-all-kinds
-use Rattle.propose.proofs.provable.+prove_all+prove_atom+prove_both+prove_either+prove_goal+prove_some+prove_under+prove_with+through+through_all+through_and+through_imp+through_with+use_clause.Lts-prove_all as prove-all-lts
-use Rattle.propose.proofs.provable.prove_atom.Reads as prove-atom
-use Rattle.propose.proofs.provable.prove_atom.Kinds as prove-atom-kinds
-use Rattle.propose.proofs.provable.+prove_all+prove_atom+prove_both+prove_either+prove_goal+prove_some+prove_under+prove_with+through+through_all+through_and+through_imp+through_with+use_clause.Lts-prove_atom as prove-atom-lts
-use Rattle.propose.proofs.provable.prove_both.Reads as prove-both
-use Rattle.propose.proofs.provable.prove_both.Kinds as prove-both-kinds
-use Rattle.propose.proofs.provable.+prove_all+prove_atom+prove_both+prove_either+prove_goal+prove_some+prove_under+prove_with+through+through_all+through_and+through_imp+through_with+use_clause.Lts-prove_both as prove-both-lts
-use Rattle.propose.proofs.provable.prove_either.Reads as prove-either
-use Rattle.propose.proofs.provable.prove_either.Kinds as prove-either-kinds
-use Rattle.propose.proofs.provable.+prove_all+prove_atom+prove_both+prove_either+prove_goal+prove_some+prove_under+prove_with+through+through_all+through_and+through_imp+through_with+use_clause.Lts-prove_either as prove-either-lts
-use Rattle.propose.proofs.provable.prove_goal.Reads as prove-goal
-use Rattle.propose.proofs.provable.prove_goal.Kinds as prove-goal-kinds
-use Rattle.propose.proofs.provable.+prove_all+prove_atom+prove_both+prove_either+prove_goal+prove_some+prove_under+prove_with+through+through_all+through_and+through_imp+through_with+use_clause.Lts-prove_goal as prove-goal-lts
-use Rattle.propose.proofs.provable.prove_some.Reads as prove-some
-use Rattle.propose.proofs.provable.prove_some.Kinds as prove-some-kinds
-use Rattle.propose.proofs.provable.+prove_all+prove_atom+prove_both+prove_either+prove_goal+prove_some+prove_under+prove_with+through+through_all+through_and+through_imp+through_with+use_clause.Lts-prove_some as prove-some-lts
-use Rattle.propose.proofs.provable.prove_under.Reads as prove-under
-use Rattle.propose.proofs.provable.prove_under.Kinds as prove-under-kinds
-use Rattle.propose.proofs.provable.+prove_all+prove_atom+prove_both+prove_either+prove_goal+prove_some+prove_under+prove_with+through+through_all+through_and+through_imp+through_with+use_clause.Lts-prove_under as prove-under-lts
-use Rattle.propose.proofs.provable.prove_with.Reads as prove-with
-use Rattle.propose.proofs.provable.prove_with.Kinds as prove-with-kinds
-use Rattle.propose.proofs.provable.+prove_all+prove_atom+prove_both+prove_either+prove_goal+prove_some+prove_under+prove_with+through+through_all+through_and+through_imp+through_with+use_clause.Lts-prove_with as prove-with-lts
-use Rattle.propose.proofs.provable.through.Reads as through
-use Rattle.propose.proofs.provable.through.Kinds as through-kinds
-use Rattle.propose.proofs.provable.+prove_all+prove_atom+prove_both+prove_either+prove_goal+prove_some+prove_under+prove_with+through+through_all+through_and+through_imp+through_with+use_clause.Lts-through as through-lts
-use Rattle.propose.proofs.provable.through_all.Reads as through-all
-use Rattle.propose.proofs.provable.through_all.Kinds as through-all-kinds
-use Rattle.propose.proofs.provable.+prove_all+prove_atom+prove_both+prove_either+prove_goal+prove_some+prove_under+prove_with+through+through_all+through_and+through_imp+through_with+use_clause.Lts-through_all as through-all-lts
-use Rattle.propose.proofs.provable.through_and.Reads as through-and
-use Rattle.propose.proofs.provable.through_and.Kinds as through-and-kinds
-use Rattle.propose.proofs.provable.+prove_all+prove_atom+prove_both+prove_either+prove_goal+prove_some+prove_under+prove_with+through+through_all+through_and+through_imp+through_with+use_clause.Lts-through_and as through-and-lts
-use Rattle.propose.proofs.provable.through_imp.Reads as through-imp
-use Rattle.propose.proofs.provable.through_imp.Kinds as through-imp-kinds
-use Rattle.propose.proofs.provable.+prove_all+prove_atom+prove_both+prove_either+prove_goal+prove_some+prove_under+prove_with+through+through_all+through_and+through_imp+through_with+use_clause.Lts-through_imp as through-imp-lts
-use Rattle.propose.proofs.provable.through_with.Reads as through-with
-use Rattle.propose.proofs.provable.through_with.Kinds as through-with-kinds
-use Rattle.propose.proofs.provable.+prove_all+prove_atom+prove_both+prove_either+prove_goal+prove_some+prove_under+prove_with+through+through_all+through_and+through_imp+through_with+use_clause.Lts-through_with as through-with-lts
-use Rattle.propose.proofs.provable.use_clause.Reads as use-clause
-use Rattle.propose.proofs.provable.use_clause.Kinds as use-clause-kinds
-use Rattle.propose.proofs.provable.+prove_all+prove_atom+prove_both+prove_either+prove_goal+prove_some+prove_under+prove_with+through+through_all+through_and+through_imp+through_with+use_clause.Lts-use_clause as use-clause-lts
-use Rattle.propose.proofs.clauses.candidates.Reads as candidates-reads
-use Rattle.propose.proofs.clauses.clauses.Reads as clauses-reads
-use Rattle.propose.proofs.clauses.deeper.Reads as deeper-reads
-use Rattle.propose.proofs.clauses.open_clause.Reads as open-clause-reads
+use Rattle.provable.proofs.provable.prove_all.Reads as prove-all
+use Rattle.provable.proofs.provable.prove_all.Kinds as prove-all-kinds
+use Rattle.provable.proofs.provable.+prove_all+prove_atom+prove_both+prove_either+prove_goal+prove_some+prove_under+prove_with+through+through_all+through_and+through_imp+through_with+use_clause.Lts-prove_all as prove-all-lts
+use Rattle.provable.proofs.provable.prove_atom.Reads as prove-atom
+use Rattle.provable.proofs.provable.prove_atom.Kinds as prove-atom-kinds
+use Rattle.provable.proofs.provable.+prove_all+prove_atom+prove_both+prove_either+prove_goal+prove_some+prove_under+prove_with+through+through_all+through_and+through_imp+through_with+use_clause.Lts-prove_atom as prove-atom-lts
+use Rattle.provable.proofs.provable.prove_both.Reads as prove-both
+use Rattle.provable.proofs.provable.prove_both.Kinds as prove-both-kinds
+use Rattle.provable.proofs.provable.+prove_all+prove_atom+prove_both+prove_either+prove_goal+prove_some+prove_under+prove_with+through+through_all+through_and+through_imp+through_with+use_clause.Lts-prove_both as prove-both-lts
+use Rattle.provable.proofs.provable.prove_either.Reads as prove-either
+use Rattle.provable.proofs.provable.prove_either.Kinds as prove-either-kinds
+use Rattle.provable.proofs.provable.+prove_all+prove_atom+prove_both+prove_either+prove_goal+prove_some+prove_under+prove_with+through+through_all+through_and+through_imp+through_with+use_clause.Lts-prove_either as prove-either-lts
+use Rattle.provable.proofs.provable.prove_goal.Reads as prove-goal
+use Rattle.provable.proofs.provable.prove_goal.Kinds as prove-goal-kinds
+use Rattle.provable.proofs.provable.+prove_all+prove_atom+prove_both+prove_either+prove_goal+prove_some+prove_under+prove_with+through+through_all+through_and+through_imp+through_with+use_clause.Lts-prove_goal as prove-goal-lts
+use Rattle.provable.proofs.provable.prove_some.Reads as prove-some
+use Rattle.provable.proofs.provable.prove_some.Kinds as prove-some-kinds
+use Rattle.provable.proofs.provable.+prove_all+prove_atom+prove_both+prove_either+prove_goal+prove_some+prove_under+prove_with+through+through_all+through_and+through_imp+through_with+use_clause.Lts-prove_some as prove-some-lts
+use Rattle.provable.proofs.provable.prove_under.Reads as prove-under
+use Rattle.provable.proofs.provable.prove_under.Kinds as prove-under-kinds
+use Rattle.provable.proofs.provable.+prove_all+prove_atom+prove_both+prove_either+prove_goal+prove_some+prove_under+prove_with+through+through_all+through_and+through_imp+through_with+use_clause.Lts-prove_under as prove-under-lts
+use Rattle.provable.proofs.provable.prove_with.Reads as prove-with
+use Rattle.provable.proofs.provable.prove_with.Kinds as prove-with-kinds
+use Rattle.provable.proofs.provable.+prove_all+prove_atom+prove_both+prove_either+prove_goal+prove_some+prove_under+prove_with+through+through_all+through_and+through_imp+through_with+use_clause.Lts-prove_with as prove-with-lts
+use Rattle.provable.proofs.provable.through.Reads as through
+use Rattle.provable.proofs.provable.through.Kinds as through-kinds
+use Rattle.provable.proofs.provable.+prove_all+prove_atom+prove_both+prove_either+prove_goal+prove_some+prove_under+prove_with+through+through_all+through_and+through_imp+through_with+use_clause.Lts-through as through-lts
+use Rattle.provable.proofs.provable.through_all.Reads as through-all
+use Rattle.provable.proofs.provable.through_all.Kinds as through-all-kinds
+use Rattle.provable.proofs.provable.+prove_all+prove_atom+prove_both+prove_either+prove_goal+prove_some+prove_under+prove_with+through+through_all+through_and+through_imp+through_with+use_clause.Lts-through_all as through-all-lts
+use Rattle.provable.proofs.provable.through_and.Reads as through-and
+use Rattle.provable.proofs.provable.through_and.Kinds as through-and-kinds
+use Rattle.provable.proofs.provable.+prove_all+prove_atom+prove_both+prove_either+prove_goal+prove_some+prove_under+prove_with+through+through_all+through_and+through_imp+through_with+use_clause.Lts-through_and as through-and-lts
+use Rattle.provable.proofs.provable.through_imp.Reads as through-imp
+use Rattle.provable.proofs.provable.through_imp.Kinds as through-imp-kinds
+use Rattle.provable.proofs.provable.+prove_all+prove_atom+prove_both+prove_either+prove_goal+prove_some+prove_under+prove_with+through+through_all+through_and+through_imp+through_with+use_clause.Lts-through_imp as through-imp-lts
+use Rattle.provable.proofs.provable.through_with.Reads as through-with
+use Rattle.provable.proofs.provable.through_with.Kinds as through-with-kinds
+use Rattle.provable.proofs.provable.+prove_all+prove_atom+prove_both+prove_either+prove_goal+prove_some+prove_under+prove_with+through+through_all+through_and+through_imp+through_with+use_clause.Lts-through_with as through-with-lts
+use Rattle.provable.proofs.provable.use_clause.Reads as use-clause
+use Rattle.provable.proofs.provable.use_clause.Kinds as use-clause-kinds
+use Rattle.provable.proofs.provable.+prove_all+prove_atom+prove_both+prove_either+prove_goal+prove_some+prove_under+prove_with+through+through_all+through_and+through_imp+through_with+use_clause.Lts-use_clause as use-clause-lts
+use Rattle.provable.proofs.hand.candidates.Reads as candidates-reads
+use Rattle.provable.proofs.hand.clauses.Reads as clauses-reads
+use Rattle.provable.proofs.hand.deeper.Reads as deeper-reads
+use Rattle.provable.proofs.hand.open_clause.Reads as open-clause-reads
 use Rattle.room.proofs.same_atoms.Reads as same-atoms-reads
 use Rattle.room.proofs.suppose.Reads as suppose-reads
 use Rattle.room.proofs.push.Reads as push-reads
@@ -73,10 +73,10 @@ use Rattle.room.proofs.supposes.Reads as supposes-reads
 use Rattle.room.proofs.within.Reads as within-reads
 use Rattle.room.proofs.word_there.Reads as word-there-reads
 use Rattle.room.proofs.may_use.Reads as may-use-reads
-use Rattle.propose.proofs.provable.+prove_all+prove_atom+prove_both+prove_either+prove_goal+prove_some+prove_under+prove_with+through+through_all+through_and+through_imp+through_with+use_clause.{
+use Rattle.provable.proofs.provable.+prove_all+prove_atom+prove_both+prove_either+prove_goal+prove_some+prove_under+prove_with+through+through_all+through_and+through_imp+through_with+use_clause.{
   statement,
 }
-use Rattle.propose.proofs.provable.+prove_all+prove_atom+prove_both+prove_either+prove_goal+prove_some+prove_under+prove_with+through+through_all+through_and+through_imp+through_with+use_clause.Tie.{
+use Rattle.provable.proofs.provable.+prove_all+prove_atom+prove_both+prove_either+prove_goal+prove_some+prove_under+prove_with+through+through_all+through_and+through_imp+through_with+use_clause.Tie.{
   close,
 }
 

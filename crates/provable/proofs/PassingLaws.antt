@@ -38,16 +38,16 @@ use Rattle.room.proofs.FrameLaws.{frame-pushed}
 use Rattle.room.proofs.NestLaws.{clause-nests}
 use Rattle.room.proofs.WhereLaws.{kept-then, kept-less, framed-kept, file-small, plus-inside, push-keeps}
 use Rattle.room.proofs.MoveLaws.{hand-higher}
-use Rattle.propose.specs.Hand.{deeper, Opened}
-use Rattle.propose.specs.Provable as spec
-use Rattle.propose.specs.Proving.{Ready, Taken, Answers, Proving, ProvingBy, Passing, PassingAs, PassingWith, passes, passesWith}
-use Rattle.propose.specs.declared.clauses.Chosen.{Chosen}
-use Rattle.propose.specs.declared.clauses.Chosen.the-variants as C
-use Rattle.propose.proofs.WalkLaws.{any-here, any-none}
-use Rattle.propose.proofs.HeadLaws.{clause-says, clause-is, clause-has-row, heads, first-part, second-found, first-found}
-use Rattle.propose.proofs.ReadyLaws.{may-be, allowed-below, ready-kept}
-use Rattle.propose.proofs.HandLaws.{opened-none, opened-clause}
-use Rattle.propose.proofs.ProvingLaws.{bytesAt, and-no, and-yes, or-yes, or-no, proving-at, both-of}
+use Rattle.provable.specs.Hand.{deeper, Opened}
+use Rattle.provable.specs.Provable as spec
+use Rattle.provable.specs.Proving.{Ready, Taken, Answers, Proving, ProvingBy, Passing, PassingAs, PassingWith, passes, passesWith}
+use Rattle.provable.specs.declared.Chosen.{Chosen}
+use Rattle.provable.specs.declared.Chosen.the-variants as C
+use Rattle.provable.proofs.WalkLaws.{any-here, any-none}
+use Rattle.provable.proofs.HeadLaws.{clause-says, clause-is, clause-has-row, heads, first-part, second-found, first-found}
+use Rattle.provable.proofs.ReadyLaws.{may-be, allowed-below, ready-kept}
+use Rattle.provable.proofs.HandLaws.{opened-none, opened-clause}
+use Rattle.provable.proofs.ProvingLaws.{bytesAt, and-no, and-yes, or-yes, or-no, proving-at, both-of}
 
 module _ {f : Files} {room : List ℕ} {ds : List (Clause Plain)} {us : List Term} {w : Where} {x : Spot} {left : ℕ} {o : List Plain} {c : Hand Plain} {bs : Bindings} {a : Atom} {d : Clause Plain} {bs′ : Bindings} (t : Taken f room ds us w x left o c bs a d bs′) where
   -- a part of what stands there

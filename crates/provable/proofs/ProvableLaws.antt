@@ -15,7 +15,7 @@ use Rattle.harrop.specs.Place.{Candidates, AtHand, Hand, End, allowed, place}
 use Rattle.harrop.specs.First.{Within}
 use Rattle.harrop.specs.Search.{firstFrom, firstCandidate, firstPath, atEnd, first}
 use Rattle.harrop.proofs.Finding.{nothing-found-no-proof, found-proves, found-within-the-height}
-use Rattle.propose.specs.Provable.{isSome, anyFrom, candidateDoes, candidatesFrom, through, ending, clauseDoes, clausesFrom, provable, serves}
+use Rattle.provable.specs.Provable.{isSome, anyFrom, candidateDoes, candidatesFrom, through, ending, clauseDoes, clausesFrom, provable, serves}
 
 -- an answer that is only dressed, and one that another follows
 pub dressed-is : {A B : Type 0} (f : A → B) (o : Option A) → isSome (o >>= λ a. some (f a)) ≡ isSome o

@@ -13,7 +13,7 @@ use Rattle.harrop.specs.Formula.{Atom, Goal, Clause}
 use Rattle.harrop.specs.Bindings.{Bindings, replacedAtom, sameAtom}
 use Rattle.harrop.specs.Place.{Candidates, AtHand, Hand, End, allowed}
 use Rattle.harrop.proofs.ListLaws.{member-below}
-use Rattle.propose.specs.Provable.{anyFrom, candidateDoes, candidatesFrom, through, ending, clauseDoes, clausesFrom, provable, serves}
+use Rattle.provable.specs.Provable.{anyFrom, candidateDoes, candidatesFrom, through, ending, clauseDoes, clausesFrom, provable, serves}
 
 -- the numbers from i on, where there is one and where there is none
 pub any-here : (f : ℕ → Bool) (i n : ℕ) → i < n → anyFrom f i (n - i) ≡ f i || anyFrom f (i + 1) (n - (i + 1))

@@ -32,11 +32,11 @@ use Rattle.room.specs.declared.Spot.{Spot}
 use Rattle.room.specs.declared.Where.{Where}
 use Rattle.room.proofs.WhereLaws.{kept-then, push-keeps}
 use Rattle.room.proofs.MoveLaws.{suppose-keeps}
-use Rattle.propose.specs.Provable as spec
-use Rattle.propose.specs.Proving.{Ready, Answers, Proving, ProvingAs, ProvingWith, ProvingBy, provesWith}
-use Rattle.propose.proofs.WalkLaws.{any-here, any-none}
-use Rattle.propose.proofs.HeadLaws.{goal-says, goal-is, goal-has-row, heads, first-part, second-found, first-found}
-use Rattle.propose.proofs.ReadyLaws.{may-be, allowed-below, ready-kept, ready-part, ready-with, ready-all, ready-under}
+use Rattle.provable.specs.Provable as spec
+use Rattle.provable.specs.Proving.{Ready, Answers, Proving, ProvingAs, ProvingWith, ProvingBy, provesWith}
+use Rattle.provable.proofs.WalkLaws.{any-here, any-none}
+use Rattle.provable.proofs.HeadLaws.{goal-says, goal-is, goal-has-row, heads, first-part, second-found, first-found}
+use Rattle.provable.proofs.ReadyLaws.{may-be, allowed-below, ready-kept, ready-part, ready-with, ready-all, ready-under}
 
 -- the file of a spot
 abbrev pub bytesAt : Files → Spot → List ℕ

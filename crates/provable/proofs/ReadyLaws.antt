@@ -27,7 +27,7 @@ use Rattle.room.specs.declared.Where.{Where}
 use Rattle.room.proofs.FileLaws.{supposing-some}
 use Rattle.room.proofs.WhereLaws.{file, part-means, means-kept}
 use Rattle.room.proofs.MoveLaws.{bound-means, supposes-means}
-use Rattle.propose.specs.Proving.{Ready}
+use Rattle.provable.specs.Proving.{Ready}
 
 -- whether a candidate may be used, by the room's table
 pub may-be : (room terms : List ℕ) (us : List Term) (o : List Plain) (q : Plain) (i p : ℕ) → CandidatesIn room terms us → length o ≡ p → (ltb i (getD room candidatesWord 0) && leb (getD room (highestWord i) 0) p) ≡ allowed (listed us) o q i

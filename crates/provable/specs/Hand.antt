@@ -11,8 +11,8 @@ use Rattle.room.specs.Spot.{supposedIn}
 use Rattle.room.specs.Where.{plus}
 use Rattle.room.specs.declared.Source.the-variants as S
 use Rattle.room.specs.declared.Spot.{Spot}
-use Rattle.propose.specs.declared.clauses.Chosen.{Chosen}
-use Rattle.propose.specs.declared.clauses.Chosen.the-variants as C
+use Rattle.provable.specs.declared.Chosen.{Chosen}
+use Rattle.provable.specs.declared.Chosen.the-variants as C
 
 -- the spot of rule k, and of clause k: a rule, or one of m that are supposed
 abbrev pub ruleSpot : List ℕ → ℕ → Spot

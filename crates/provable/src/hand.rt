@@ -1,4 +1,5 @@
 // Which clauses are at hand, by the room's tables, and the frame that one of them is taken apart in (document 01, "When a strip fits": clause k is at hand).
+use crate::Chosen;
 use room::Source;
 use room::Spot;
 use room::copy;
@@ -8,14 +9,8 @@ ghost use mathlib.Core.Path.{_≡_};
 ghost use lib.ListN.{getD};
 ghost use Rattle.room.specs.Layout.{rulesWord, candidatesWord};
 ghost use Rattle.room.specs.Where as places;
-ghost use Rattle.propose.specs.Hand.{clauseIn, Opened};
-ghost use Rattle.propose.specs.Hand as hand;
-
-// Clause k, if it is at hand.
-pub(crate) enum Chosen {
-    Nothing,
-    Clause(Spot),
-}
+ghost use Rattle.provable.specs.Hand.{clauseIn, Opened};
+ghost use Rattle.provable.specs.Hand as hand;
 
 // A word of the room; past the end, 0.
 fn word(room: &[u32], i: usize) -> u32
@@ -25,14 +20,14 @@ fn word(room: &[u32], i: usize) -> u32
 }
 
 // How many candidates there are.
-pub(crate) fn candidates(room: &[u32]) -> u32
+pub fn candidates(room: &[u32]) -> u32
     ensures { λ r. ⌜ r ≡ getD (now (room .entry)) candidatesWord 0 ⌝ }
 {
     word(room, 257)
 }
 
 // How many clauses are at hand.
-pub(crate) fn clauses(room: &[u32], supposes: usize) -> usize
+pub fn clauses(room: &[u32], supposes: usize) -> usize
     ensures { λ r. ⌜ r ≡ places.plus (getD (now (room .entry)) rulesWord 0) supposes ⌝ }
 {
     plus(word(room, 0) as usize, supposes)
@@ -60,7 +55,7 @@ fn at_hand(room: &[u32], k: usize, supposes: usize) -> Chosen
 }
 
 // Clause k with a new frame on top of the stack, which holds its bindings.
-pub(crate) fn open_clause(room: &mut [u32], k: usize, supposes: usize, top: usize) -> Chosen
+pub fn open_clause(room: &mut [u32], k: usize, supposes: usize, top: usize) -> Chosen
     ensures { λ r. ⌜ Opened (now (room .entry)) (now (room .exit)) k supposes top r ⌝ }
 {
     let Chosen::Clause(x) = at_hand(room, k, supposes) else {
@@ -78,7 +73,7 @@ pub(crate) fn open_clause(room: &mut [u32], k: usize, supposes: usize, top: usiz
 }
 
 // The spot of a part, n bytes further on, with one variable more.
-pub(crate) fn deeper(x: Spot, n: usize) -> Spot
+pub fn deeper(x: Spot, n: usize) -> Spot
     ensures { λ r. ⌜ r ≡ hand.deeper x n ⌝ }
 {
     let source = x.source;

@@ -1,10 +1,10 @@
 // Whether a goal has a proof within a height (document 01: "Proving a goal needs the proof of clause bodies, and those are goals again; the height left falls at each turn").
 // The search of a goal calls the search over the clauses at hand, each of which is taken apart from outside; that calls the search of a goal for the body, with one less.
-use crate::clauses::Chosen;
-use crate::clauses::candidates;
-use crate::clauses::clauses;
-use crate::clauses::deeper;
-use crate::clauses::open_clause;
+use crate::Chosen;
+use crate::hand::candidates;
+use crate::hand::clauses;
+use crate::hand::deeper;
+use crate::hand::open_clause;
 use harrop::Binding;
 use packet::Word;
 use room::Spot;
@@ -24,10 +24,10 @@ use sexp::After;
 ghost use Prim.Native.Nat.{ℕ};
 ghost use Rattle.packet.specs.declared.Word.the-variants as W;
 ghost use Rattle.room.specs.Where.{filesOf};
-ghost use Rattle.propose.specs.Proving.{Proving, ProvingAs, ProvingWith, ProvingBy, Passing, PassingAs, PassingWith};
+ghost use Rattle.provable.specs.Proving.{Proving, ProvingAs, ProvingWith, ProvingBy, Passing, PassingAs, PassingWith};
 
 // Whether the goal of a place has a proof of at most this height.
-pub(crate) fn prove_goal<'a>(
+pub fn prove_goal<'a>(
     rules: &'a [u8],
     goal: &'a [u8],
     terms: &'a [u8],
@@ -115,7 +115,7 @@ fn prove_some<'a>(
 }
 
 // The part of a `some` with candidate i, if it may be used.
-fn prove_with<'a>(
+pub fn prove_with<'a>(
     rules: &'a [u8],
     goal: &'a [u8],
     terms: &'a [u8],
@@ -196,7 +196,7 @@ fn prove_atom<'a>(
 }
 
 // Clause k for an atom, with a frame of its own.
-fn use_clause<'a>(
+pub fn use_clause<'a>(
     rules: &'a [u8],
     goal: &'a [u8],
     terms: &'a [u8],
@@ -214,7 +214,7 @@ fn use_clause<'a>(
 }
 
 // Whether a path through the clause at a spot ends at the atom, with a proof of the body if there is one.
-fn through<'a>(
+pub fn through<'a>(
     rules: &'a [u8],
     goal: &'a [u8],
     terms: &'a [u8],
@@ -312,7 +312,7 @@ fn through_all<'a>(
 }
 
 // The clause of an `all` with candidate i, if it may be used.
-fn through_with<'a>(
+pub fn through_with<'a>(
     rules: &'a [u8],
     goal: &'a [u8],
     terms: &'a [u8],

@@ -24,11 +24,11 @@ use Rattle.room.specs.declared.Source.the-variants as S
 use Rattle.room.specs.declared.Spot.{Spot}
 use Rattle.room.specs.declared.Where.{Where}
 use Rattle.room.proofs.FrameLaws.{frame-copied, copy-kept, copy-length, word-kept}
-use Rattle.propose.specs.Hand.{ruleSpot, clauseIn, Opened}
-use Rattle.propose.specs.Proving.{Ready, Taken}
-use Rattle.propose.specs.declared.clauses.Chosen.{Chosen}
-use Rattle.propose.specs.declared.clauses.Chosen.the-variants as C
-use Rattle.propose.proofs.ReadyLaws.{ready-kept}
+use Rattle.provable.specs.Hand.{ruleSpot, clauseIn, Opened}
+use Rattle.provable.specs.Proving.{Ready, Taken}
+use Rattle.provable.specs.declared.Chosen.{Chosen}
+use Rattle.provable.specs.declared.Chosen.the-variants as C
+use Rattle.provable.proofs.ReadyLaws.{ready-kept}
 
 -- the code's three answers
 module _ (room : List ℕ) (k m a : ℕ) (e : a ≡ getD room rulesWord 0) where

@@ -1,0 +1,4 @@
+pub mod Provable
+pub mod Heads
+pub mod Hand
+pub mod Proving
