@@ -1,9 +1,5 @@
-pub mod ChosenLaws
-pub mod TakenLaws
-pub mod StripLaws
 pub mod MeaningLaws
 pub mod PaperLaws
 pub mod WrittenLaws
 pub mod SearchedLaws
-pub mod SpelledLaws
 pub mod Cases

@@ -21,7 +21,8 @@ use Rattle.packet.specs.File.{mostBytes, Outcome, Books, booksOf}
 use Rattle.packet.specs.Sound.{SoundBooks, RefusedBooks, BooksMean}
 use Rattle.packet.proofs.PacketLaws.{books-told, books-only}
 use Rattle.room.specs.Layout.{words}
-use Rattle.propose.specs.Proposed.{mostHeight, written, Comes, firstStrip, unlessLong, ofFirst, ofBooks, comesTo}
+use Rattle.writer.specs.Spelled.{written}
+use Rattle.propose.specs.Proposed.{mostHeight, Comes, firstStrip, unlessLong, ofFirst, ofBooks, comesTo}
 use Rattle.propose.specs.Meaning.{start, offered, Searched, TheFirst, Provable, Told, noRoom, tooHigh, atFault, noProof, tooLong, wrote}
 
 -- a strip that is not too long, and one that is

@@ -14,7 +14,8 @@ use Rattle.harrop.proofs.Finding.{proof-found, found-is-the-first, whether-prov
 use Rattle.packet.specs.declared.Reason.the-variants as R
 use Rattle.packet.specs.declared.File.the-variants as F
 use Rattle.packet.specs.File.{mostBytes, Books}
-use Rattle.propose.specs.Proposed.{written, Comes, comesTo, proposal, proposalOf, Paper, paper}
+use Rattle.writer.specs.Spelled.{written}
+use Rattle.propose.specs.Proposed.{Comes, comesTo, proposal, proposalOf, Paper, paper}
 use Rattle.propose.specs.Meaning.{start, offered, Searched, TheFirst, Provable, Told, noProof, tooLong, wrote}
 use Rattle.propose.proofs.PaperLaws.{firstOf, secondOf, thirdOf, kindOf}
 use Rattle.propose.proofs.MeaningLaws.{only-the-table's-is-the-answer}

@@ -16,9 +16,10 @@ use Rattle.packet.specs.Sound.{SoundBooks, SoundFile, SoundPacket}
 use Rattle.packet.specs.Spells.{StripWords}
 use Rattle.packet.specs.Written.{stripSexp}
 use Rattle.packet.proofs.PacketLaws.{packet-only}
-use Rattle.propose.specs.Proposed.{written, Comes, comesTo, over}
+use Rattle.writer.specs.Spelled.{written}
+use Rattle.propose.specs.Proposed.{Comes, comesTo, over}
 use Rattle.propose.specs.Meaning.{start, offered, Searched, TheFirst, Told, wrote}
-use Rattle.propose.proofs.StripLaws.{proof-words, strip-nests}
+use Rattle.writer.proofs.StripLaws.{proof-words, strip-nests}
 use Rattle.propose.proofs.MeaningLaws.{the-answer-is-the-table's}
 
 hand-length : (ds : List (Clause Plain)) → length (atStart ds) ≡ length ds

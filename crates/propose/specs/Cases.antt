@@ -7,7 +7,8 @@ use mathlib.Core.Option.{Option, none, some}
 use lib.ListN.{replicate}
 use Rattle.basics.specs.Text.{octets}
 use Rattle.room.specs.Layout.{words}
-use Rattle.propose.specs.Proposed.{written, Comes, comesTo, proposal, Paper, paper}
+use Rattle.writer.specs.Spelled.{written}
+use Rattle.propose.specs.Proposed.{Comes, comesTo, proposal, Paper, paper}
 
 -- rules, goal and terms as the document prints them
 pub record Files : Type 0 where

@@ -1,5 +1,3 @@
 pub mod Proposed
-pub mod Chosen
 pub mod Meaning
-pub mod Spelled
 pub mod Cases

@@ -13,7 +13,8 @@ use Rattle.packet.specs.declared.File.the-variants as F
 use Rattle.packet.specs.File.{mostBytes, Books}
 use Rattle.packet.specs.Sound.{SoundBooks, RefusedBooks}
 use Rattle.room.specs.Layout.{words}
-use Rattle.propose.specs.Proposed.{mostHeight, written, Comes}
+use Rattle.writer.specs.Spelled.{written}
+use Rattle.propose.specs.Proposed.{mostHeight, Comes}
 
 -- where a packet's search starts, and its candidates
 abbrev pub start : Books → Place Plain

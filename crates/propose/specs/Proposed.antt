@@ -10,25 +10,20 @@ use Rattle.basics.specs.Choice.{choose}
 use Rattle.harrop.specs.Formula.{Strip, height, nodes}
 use Rattle.harrop.specs.Place.{listed, root}
 use Rattle.harrop.specs.Search.{firstAt}
-use Rattle.sexp.specs.Sexp.{spell}
 use Rattle.packet.specs.declared.Reason.{Reason}
 use Rattle.packet.specs.declared.Reason.the-variants as R
 use Rattle.packet.specs.declared.File.{File}
 use Rattle.packet.specs.declared.File.the-variants as F
-use Rattle.packet.specs.Written.{stripSexp}
 use Rattle.packet.specs.Numbers.{reasonNumber, fileNumber}
 use Rattle.packet.specs.File.{mostBytes, Outcome, Books, booksOf}
 use Rattle.room.specs.Layout.{words}
+use Rattle.writer.specs.Spelled.{written}
 use Rattle.propose.specs.declared.Proposal.{Proposal}
 use Rattle.propose.specs.declared.Proposal.the-variants as P
 
 -- the most that a search's height may be
 abbrev pub mostHeight : ℕ
 mostHeight = 32
-
--- a strip's bytes
-abbrev pub written : Strip → List ℕ
-written S = spell (stripSexp S)
 
 -- what a search comes to: the strip that is written, or why none is, and the file at fault
 pub data Comes : Type 0 where

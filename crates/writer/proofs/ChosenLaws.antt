@@ -14,7 +14,7 @@ use Rattle.harrop.specs.Place.{Candidates, AtHand, Hand, End, allowed}
 use Rattle.harrop.specs.Search.{firstFrom, firstCandidate, firstPath, atEnd, first}
 use Rattle.harrop.proofs.SilentLaws.{tried}
 use Rattle.provable.specs.Provable.{isSome, candidateDoes, through, ending, clauseDoes, provable, serves}
-use Rattle.propose.specs.Chosen.{firstYes, stepping, usedAt, candidateFrom, clauseFrom, way}
+use Rattle.writer.specs.Chosen.{firstYes, stepping, usedAt, candidateFrom, clauseFrom, way}
 use Rattle.provable.proofs.ProvableLaws.{dressed-is, tested-is, path-is, end-is, clause-is, provable-is}
 
 -- where there is no answer

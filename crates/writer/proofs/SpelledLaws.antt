@@ -14,8 +14,8 @@ use Rattle.sexp.specs.Sexp.{Sexp, Sexps, spell, spells, spellOnto, spellsOnto, 
 use Rattle.sexp.proofs.DecimalLaws.{onto-small, onto-step}
 use Rattle.sexp.proofs.OntoLaws.{spell-onto, spells-onto}
 use Rattle.packet.specs.Written.{each, number, stepSexp, pathSexp, stripSexp}
-use Rattle.propose.specs.Proposed.{written}
-use Rattle.propose.specs.Spelled.{numeral, stepBytes, pathBytes, counted}
+use Rattle.writer.specs.Spelled.{written}
+use Rattle.writer.specs.Spelled.{numeral, stepBytes, pathBytes, counted}
 
 -- the closing parenthesis
 abbrev pub shut : List ℕ

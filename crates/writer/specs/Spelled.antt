@@ -4,9 +4,12 @@ use mathlib.Core.List.{List}
 use lib.ListN.{length}
 use Rattle.harrop.specs.Formula.{Step, Strip}
 use Rattle.sexp.specs.Sexp.{spell, spells}
-use Rattle.packet.specs.Written.{each, number, stepSexp}
+use Rattle.packet.specs.Written.{each, number, stepSexp, stripSexp}
 use Rattle.packet.specs.File.{mostBytes}
-use Rattle.propose.specs.Proposed.{written}
+
+-- a strip's bytes
+abbrev pub written : Strip → List ℕ
+written S = spell (stripSexp S)
 
 -- a number's bytes, a step's, and those of the steps of a path
 unfoldable pub numeral : ℕ → List ℕ

@@ -16,8 +16,8 @@ use Rattle.harrop.specs.Search.{first}
 use Rattle.harrop.proofs.ListLaws.{member-below}
 use Rattle.harrop.proofs.SearchLaws.{dressed-some}
 use Rattle.provable.specs.Provable.{candidateDoes, through, clauseDoes, provable, serves}
-use Rattle.propose.specs.Chosen.{firstYes, stepping, usedAt, candidateFrom, clauseFrom, way}
-use Rattle.propose.proofs.ChosenLaws.{first-atom, first-or, first-some}
+use Rattle.writer.specs.Chosen.{firstYes, stepping, usedAt, candidateFrom, clauseFrom, way}
+use Rattle.writer.proofs.ChosenLaws.{first-atom, first-or, first-some}
 
 -- the numbers from i on
 pub yes-here : (f : ℕ → Bool) (i n : ℕ) → i < n → firstYes f i (n - i) ≡ choose (f i) (some i) (firstYes f (i + 1) (n - (i + 1)))

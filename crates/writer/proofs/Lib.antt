@@ -1,0 +1,4 @@
+pub mod ChosenLaws
+pub mod TakenLaws
+pub mod StripLaws
+pub mod SpelledLaws
