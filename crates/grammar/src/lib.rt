@@ -1,0 +1,1 @@
+// Grammars as data, and the machine that reads by them: this crate is definition and law, and has no code.
