@@ -1,0 +1,48 @@
+-- The numbers of an answer, case by case, from what the checker has promised of it; and that the numbers tell the answer.
+use Prim.Native.Nat.{ℕ, _<_}
+use mathlib.Core.Path.{_≡_, sym, ap, ap₂, _∙_}
+use native.Mathlib.Omega.{arith}
+use Rattle.packet.specs.declared.Reason.{Reason}
+use Rattle.packet.specs.declared.Reason.the-variants as R
+use Rattle.packet.specs.declared.File.{File}
+use Rattle.packet.specs.Numbers.{reasonNumber, fileNumber}
+use Rattle.judge.specs.declared.Verdict.{Verdict}
+use Rattle.judge.specs.declared.Verdict.the-variants as Vs
+use Rattle.judge.specs.Verdict as J
+use Rattle.desk.specs.Numbers.{Numbers, verdictNumbers}
+
+abbrev pub numbers : ℕ → ℕ → ℕ → Numbers
+numbers r a b = record { returned = r; first = a; second = b }
+
+alike : {r r′ a a′ : ℕ} (b : ℕ) → r ≡ r′ → a ≡ a′ → numbers r a b ≡ numbers r′ a′ b
+alike {r = r} {a′ = a′} b p q = ap (λ (x : ℕ). numbers r x b) q ∙ ap (λ (x : ℕ). numbers x a′ b) p
+
+module _ {v : Verdict} {p : J.Answer} where
+  pub accepted : {h n : ℕ} → v ≡ Vs.Accepted h n → J.paper v ≡ p → numbers 0 h n ≡ verdictNumbers p
+  accepted is promised = ap verdictNumbers (ap J.paper (sym is) ∙ promised)
+
+  pub refused : {why : Reason} {file : File} {r f at : ℕ} → v ≡ Vs.Refused why file at → r ≡ reasonNumber why → f ≡ fileNumber file → J.paper v ≡ p → numbers r f at ≡ verdictNumbers p
+  refused {at = at} is number from promised = alike at number from ∙ ap verdictNumbers (ap J.paper (sym is) ∙ promised)
+
+-- no refusal has number 0
+pub never-zero : (why : Reason) → 0 < reasonNumber why
+never-zero R.Long = omega arith
+never-zero R.Carrier = omega arith
+never-zero R.Deep = omega arith
+never-zero R.Words = omega arith
+never-zero R.Barred = omega arith
+never-zero R.Many = omega arith
+never-zero R.Misfit = omega arith
+never-zero R.NoProof = omega arith
+never-zero R.Height = omega arith
+never-zero R.Buffer = omega arith
+never-zero R.Room = omega arith
+
+-- the numbers tell the verdict: two verdicts with the same numbers are the same on paper
+pub verdict-told : (v w : Verdict) → verdictNumbers (J.paper v) ≡ verdictNumbers (J.paper w) → J.paper v ≡ J.paper w
+verdict-told (Vs.Accepted h n) (Vs.Accepted k m) e = ap₂ J.Answer.accepted (ap (λ (x : Numbers). x .first) e) (ap (λ (x : Numbers). x .second) e)
+verdict-told (Vs.Accepted h n) (Vs.Refused r f at) e = let z = ap (λ (x : Numbers). x .returned) e in let l = never-zero r in absurd (omega arith)
+verdict-told (Vs.Refused r f at) (Vs.Accepted h n) e = let z = ap (λ (x : Numbers). x .returned) e in let l = never-zero r in absurd (omega arith)
+verdict-told (Vs.Refused r f at) (Vs.Refused s g to) e =
+    ap (λ (x : ℕ). J.Answer.refused x (fileNumber f) at) (ap (λ (x : Numbers). x .returned) e)
+    ∙ ap₂ (J.Answer.refused (reasonNumber s)) (ap (λ (x : Numbers). x .first) e) (ap (λ (x : Numbers). x .second) e)

@@ -1,0 +1,39 @@
+// The desk for C and Rust to link (include/desk.h): judging, the answer as numbers.
+use judge::Verdict;
+ghost use mathlib.Core.Path.{_≡_};
+ghost use lib.ListN.{length};
+ghost use Rattle.judge.specs.Verdict.{paper, verdictOf, roomAfter};
+ghost use Rattle.desk.specs.Numbers.{verdictNumbers};
+
+// Judges a strip.
+#[no_mangle]
+pub extern "C" fn desk_judge<'a>(
+    rules: &'a [u8],
+    goal: &'a [u8],
+    terms: &'a [u8],
+    strip: &'a [u8],
+    room: &mut [u32],
+    first: &mut u64,
+    second: &mut u64,
+) -> u32
+    ensures answer { λ r. ⌜ record { returned = r; first = now (first .exit); second = now (second .exit) } ≡ verdictNumbers (paper (verdictOf (length (now (room .entry))) (now (rules .entry)) (now (goal .entry)) (now (terms .entry)) (now (strip .entry)))) ⌝ }
+    ensures cleared { λ _. ⌜ now (room .exit) ≡ roomAfter (now (room .entry)) ⌝ }
+{
+    let v = judge::judge(rules, goal, terms, strip, room);
+    match v {
+        Verdict::Accepted { height, nodes } => {
+            *first = height as u64;
+            *second = nodes as u64;
+            0
+        }
+        Verdict::Refused {
+            reason,
+            file,
+            place,
+        } => {
+            *first = packet::file_number(file) as u64;
+            *second = place as u64;
+            packet::reason_number(reason)
+        }
+    }
+}

@@ -1,0 +1,42 @@
+/* packet DIR: judges the packet in DIR. Prints the line that ./desk prints. */
+#include "desk.h"
+#include <stdio.h>
+
+/* One byte more than a file may have, so that a longer one is seen to be longer. */
+struct file {
+    uint8_t bytes[DESK_BYTES + 1];
+    size_t count;
+};
+
+static uint32_t room[DESK_ROOM];
+
+/* A file that is missing counts as empty. */
+static void load(struct file *file, const char *folder, const char *name) {
+    char path[4096];
+    file->count = 0;
+    if (snprintf(path, sizeof path, "%s/%s", folder, name) >= (int)sizeof path) return;
+    FILE *from = fopen(path, "rb");
+    if (from == NULL) return;
+    file->count = fread(file->bytes, 1, sizeof file->bytes, from);
+    fclose(from);
+}
+
+int main(int count, char **words) {
+    static struct file rules, goal, terms, strip;
+    uint64_t first, second;
+    if (count != 2) {
+        fprintf(stderr, "usage: packet DIR\n");
+        return 2;
+    }
+    load(&rules, words[1], "rules.sx");
+    load(&goal, words[1], "goal.sx");
+    load(&terms, words[1], "terms.sx");
+    load(&strip, words[1], "strip.sx");
+    uint32_t number = desk_judge(rules.bytes, rules.count, goal.bytes, goal.count, terms.bytes, terms.count, strip.bytes, strip.count, room, DESK_ROOM, &first, &second);
+    if (number != 0) {
+        printf("refused %u %llu %llu\n", (unsigned)number, (unsigned long long)first, (unsigned long long)second);
+        return 1;
+    }
+    printf("accepted %llu %llu\n", (unsigned long long)first, (unsigned long long)second);
+    return 0;
+}
