@@ -1,15 +1,9 @@
--- The two halves make one judgement: the tables that the first fills are right, and the files' refusals come in turn whichever half reads them.
-use Prim.Native.Nat.{ℕ, _+_, _≤_, _<_}
+-- The two halves make one judgement: the files' refusals come in turn whichever half reads them.
+use Prim.Native.Nat.{ℕ, _≤_}
 use native.Mathlib.Omega.{arith}
-use mathlib.Core.Path.{_≡_, refl, sym, _∙_, ap, subst}
-use mathlib.Core.Bool.{true}
+use mathlib.Core.Path.{_≡_, refl, sym, _∙_, ap}
 use mathlib.Core.List.{List}
-use lib.ListN.{length, getD, take}
-use lib.Seq.{getD-take}
-use Rattle.harrop.specs.Formula.{Clause}
-use Rattle.harrop.specs.Place.{Plain}
-use Rattle.harrop.proofs.ListLaws.{member-below}
-use Rattle.sexp.specs.Sexp.{Stands}
+use lib.ListN.{length}
 use Rattle.packet.specs.declared.Kind.the-variants as K
 use Rattle.packet.specs.declared.Reason.{Reason}
 use Rattle.packet.specs.declared.File.{File}
@@ -17,47 +11,21 @@ use Rattle.packet.specs.declared.File.the-variants as F
 use Rattle.packet.specs.declared.files.Judged.the-variants as J
 use Rattle.packet.specs.declared.files.Read.{Read}
 use Rattle.packet.specs.declared.files.Read.the-variants as P
-use Rattle.packet.specs.Written.{clauseSexp}
-use Rattle.packet.specs.Barred.{termOk}
 use Rattle.packet.specs.File.{Outcome, Packet, booksOf, packetOf}
 use Rattle.packet.specs.Judged.{judgedOf, termsRead, goalRead, stripRead, booksRead, packetRead}
 use Rattle.packet.proofs.JudgedLaws.{file-refused, file-read, books-are, packet-refused, packet-read}
 use Rattle.packet.proofs.PacketLaws.{packet-exactly}
-use Rattle.room.specs.Layout.{words, candidatesWord, rulesWord, ruleWord}
-use Rattle.room.specs.Table.{RulesIn, RulesFilled, CandidatesFilled}
+use Rattle.room.specs.Layout.{words}
+use Rattle.room.specs.Start.{Tabled}
 use Rattle.judge.specs.declared.Verdict.{Verdict}
 use Rattle.judge.specs.declared.Verdict.the-variants as Ver
 use Rattle.judge.specs.declared.request.Books.{Books}
 use Rattle.judge.specs.Verdict.{filesVerdict}
-use Rattle.judge.specs.Halves.{Tabled, Found, Opens, Stripping, Requests}
-use Rattle.judge.proofs.RootLaws.{each-ok}
-
--- the table of rules, where the words below the candidates' are as they were
-rules-kept : (room after rs : List ℕ) (ds : List (Clause Plain)) → take candidatesWord after ≡ take candidatesWord room → RulesIn room rs ds → RulesIn after rs ds
-rules-kept room after rs ds e h =
-    record {
-      counted = same rulesWord (omega arith) ∙ h .counted;
-      few = h .few;
-      starts = λ k d q.
-          let l = member-below ds k d q in
-          let f = h .few in
-          subst (λ (n : ℕ). Stands rs n (clauseSexp d)) (sym (same (ruleWord k) (omega arith))) (h .starts k d q);
-    }
-  where
-    same : (i : ℕ) → i < candidatesWord → getD after i 0 ≡ getD room i 0
-    same i l = sym (getD-take candidatesWord after i 0 l) ∙ ap (λ (x : List ℕ). getD x i 0) e ∙ getD-take candidatesWord room i 0 l
+use Rattle.judge.specs.Halves.{Found, Opens, Stripping, Requests}
 
 -- the first half
-pub opens : (rs ts before room after : List ℕ) (b : Books) → b .rules ≡ judgedOf K.Rules rs → b .terms ≡ judgedOf K.Terms ts → RulesFilled before room rs → CandidatesFilled room after ts → Opens rs ts before after b
-opens rs ts before room after b u v x y =
-    record {
-      found = record { rules = u; terms = v };
-      tables = λ long.
-          record {
-            rules = λ ds s g. rules-kept room after rs ds (y .below) (x .right ds (s .spelt) (g .few) (s .flat) (s .short) long);
-            terms = λ us s g. y .right us (s .spelt) (g .few) (s .flat) (each-ok (termOk true 0) us (g .unbarred)) (s .short) (let l = x .long in omega arith);
-          };
-    }
+pub opens : (rs ts before after : List ℕ) (b : Books) → b .rules ≡ judgedOf K.Rules rs → b .terms ≡ judgedOf K.Terms ts → (words ≤ length before → Tabled after rs ts) → Opens rs ts before after b
+opens rs ts before after b u v t = record { found = record { rules = u; terms = v }; tables = t }
 
 -- the files in turn
 module _ (rs gs ts ss : List ℕ) where

@@ -38,9 +38,10 @@ use Rattle.packet.specs.Refusal.{Refusal, tooLong, notOne, tooDeep, notBuilt, t
 use Rattle.packet.specs.Sound.{SoundFile, SoundBooks, SoundPacket, RefusedBooks, RefusedPacket, byRules, byGoal, byTerms, byBooks, byStrip}
 use Rattle.packet.proofs.PacketLaws.{books-only, packet-only, packet-exactly}
 use Rattle.room.specs.Layout.{words}
+use Rattle.room.proofs.StartLaws.{cleared, untouched}
 use Rattle.judge.specs.declared.Verdict.{Verdict}
 use Rattle.judge.specs.declared.Verdict.the-variants as Ver
-use Rattle.judge.specs.Verdict.{judgementOf, judgedAs, filesVerdict, verdictOf, roomAfter, paper, Judgement}
+use Rattle.judge.specs.Verdict.{judgementOf, judgedAs, filesVerdict, verdictOf, paper, Judgement}
 use Rattle.judge.proofs.FairLaws.{read-is-fair}
 
 -- with room enough the files decide, and else 11
@@ -51,14 +52,6 @@ room-enough n rs gs ts ss l = rw (le-ltb n words l) refl
 pub room-short : (n : ℕ) (rs gs ts ss : List ℕ) → n < words → verdictOf n rs gs ts ss ≡ Ver.Refused R.Room F.None 0
 unfolding verdictOf
 room-short n rs gs ts ss l = rw (lt-ltb n words l) refl
-
-pub cleared : (room : List ℕ) → words ≤ length room → roomAfter room ≡ replicate (length room) 0
-unfolding roomAfter
-cleared room l = rw (le-ltb (length room) words l) refl
-
-pub untouched : (room : List ℕ) → length room < words → roomAfter room ≡ room
-unfolding roomAfter
-untouched room l = rw (lt-ltb (length room) words l) refl
 
 -- the promise of a call, with room enough and without
 pub judgement-long : (rs gs ts ss before after : List ℕ) (v : Verdict) → words ≤ length before → v ≡ filesVerdict (packetOf rs gs ts ss) → after ≡ replicate (length before) 0 → Judgement rs gs ts ss before after v

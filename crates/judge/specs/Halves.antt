@@ -4,29 +4,17 @@ use Prim.Native.Nat.{ℕ, _≤_}
 use mathlib.Core.Path.{_≡_}
 use mathlib.Core.List.{List}
 use lib.ListN.{length}
-use Rattle.harrop.specs.Formula.{Term, Clause}
-use Rattle.harrop.specs.Place.{Plain}
 use Rattle.packet.specs.declared.Kind.the-variants as K
 use Rattle.packet.specs.declared.files.Read.{Read}
-use Rattle.packet.specs.Written.{rulesSexp, termsSexp}
-use Rattle.basics.specs.Each.{Each}
-use Rattle.packet.specs.Spells.{ClauseWords, TermWords}
-use Rattle.packet.specs.Sound.{SoundFile, GoodRules, GoodCandidates, SoundPacket}
+use Rattle.packet.specs.Sound.{SoundPacket}
 use Rattle.packet.specs.File.{Packet, packetOf}
 use Rattle.packet.specs.Judged.{judgedOf, packetRead}
 use Rattle.room.specs.Layout.{words, stack}
-use Rattle.room.specs.Table.{RulesIn, CandidatesIn}
 use Rattle.room.specs.Where.{Kept}
-use Rattle.room.specs.declared.Where.{Where}
-use Rattle.room.specs.declared.Source.the-variants as S
+use Rattle.room.specs.Start.{Tabled}
 use Rattle.judge.specs.declared.Verdict.{Verdict}
 use Rattle.judge.specs.declared.request.Books.{Books}
 use Rattle.judge.specs.Verdict.{judgementOf, judgedAs, filesVerdict}
-
--- the tables are right, if rules and terms are files that document 01 lets pass
-pub record Tabled (room rs ts : List ℕ) : Type 0 where
-  pub rules : (ds : List (Clause Plain)) → SoundFile rulesSexp (Each ClauseWords) rs ds → GoodRules ds → RulesIn room rs ds
-  pub terms : (us : List Term) → SoundFile termsSexp (Each TermWords) ts us → GoodCandidates us → CandidatesIn room ts us
 
 -- what is found of rules and terms
 pub record Found (rs ts : List ℕ) (b : Books) : Type 0 where
@@ -41,10 +29,6 @@ pub record Opens (rs ts before after : List ℕ) (b : Books) : Type 0 where
 -- the files in turn, once rules and terms are read
 abbrev pub ReadsAll : List ℕ → List ℕ → Books → Read → Type 0
 ReadsAll gs ss b r = (rs ts : List ℕ) → Found rs ts b → r ≡ packetRead (packetOf rs gs ts ss)
-
--- the root place, with the goal file's goal, no clause supposed, no parameter open and an empty stack
-abbrev pub start : Where
-start = record { goal = record { source = S.Goal; at = 0; base = stack; count = 0 }; supposed = 0; parameters = 0; top = stack }
 
 -- the strip of a packet that is read, judged at the root place
 pub record Strips (before after : List ℕ) (p : Packet) (r : Verdict) : Type 0 where

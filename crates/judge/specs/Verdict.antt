@@ -4,7 +4,7 @@ use Prim.Native.Nat.{ℕ}
 use mathlib.Core.Path.{_≡_}
 use mathlib.Core.List.{List}
 use lib.Dec.{ltb}
-use lib.ListN.{length, replicate}
+use lib.ListN.{length}
 use Rattle.basics.specs.Choice.{choose}
 use Rattle.harrop.specs.Formula.{Strip}
 use Rattle.harrop.specs.Place.{listed, root}
@@ -17,6 +17,7 @@ use Rattle.packet.specs.Numbers.{reasonNumber, fileNumber}
 use Rattle.packet.specs.Offset.{offsetOf}
 use Rattle.packet.specs.File.{Outcome, Packet, packetOf}
 use Rattle.room.specs.Layout.{words}
+use Rattle.room.specs.Start.{roomAfter}
 use Rattle.judge.specs.declared.Verdict.{Verdict}
 use Rattle.judge.specs.declared.Verdict.the-variants as Ver
 
@@ -37,10 +38,6 @@ filesVerdict (Outcome.refused r f at) = Ver.Refused r f 0
 -- the verdict, with a work room of so many words: 11 comes before all else
 unfoldable pub verdictOf : ℕ → List ℕ → List ℕ → List ℕ → List ℕ → Verdict
 verdictOf n rs gs ts ss = choose (ltb n words) (Ver.Refused R.Room F.None 0) (filesVerdict (packetOf rs gs ts ss))
-
--- the room afterwards: as it came under 11, else all zero
-unfoldable pub roomAfter : List ℕ → List ℕ
-roomAfter room = choose (ltb (length room) words) room (replicate (length room) 0)
 
 -- what comes back in document 01's numbers: accepted with height and nodes; refused with number, file and place
 pub data Answer : Type 0 where

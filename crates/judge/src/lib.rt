@@ -7,8 +7,7 @@ mod uses;
 use packet::File;
 use packet::Reason;
 use request::judge_files;
-ghost use mathlib.Core.Path.{_≡_};
-ghost use lib.ListN.{length, replicate};
+use room::clear;
 ghost use Rattle.judge.specs.Verdict.{Judgement};
 
 // What comes back. The place of a refusal is 0 but for number 7.
@@ -22,17 +21,6 @@ pub enum Verdict {
         file: File,
         place: usize,
     },
-}
-
-// All words of the room zero.
-fn clear(room: &mut [u32])
-    ensures { λ _. ⌜ now (room .exit) ≡ replicate (length (now (room .entry))) 0 ⌝ }
-{
-    let mut i = 0;
-    while i < room.len() {
-        room[i] = 0;
-        i += 1;
-    }
 }
 
 // The verdict on four files, for any bytes and any room. The files are not written; the room is zero afterwards, or as it came if it is too short.

@@ -9,18 +9,15 @@ use packet::Kind;
 use packet::Read;
 use packet::Reason;
 use packet::judge_file;
-use room::Source;
-use room::Spot;
-use room::Where;
-use room::fill_candidates;
-use room::fill_rules;
+use room::fill_tables;
+use room::first_place;
 ghost use mathlib.Core.Path.{_≡_};
 ghost use Prim.Native.Nat.{_≤_};
 ghost use lib.ListN.{length};
 ghost use Rattle.packet.specs.File.{packetOf};
 ghost use Rattle.room.specs.Layout.{words};
 ghost use Rattle.judge.specs.Verdict.{filesVerdict};
-ghost use Rattle.judge.specs.Halves.{Opens, ReadsAll, Stripping, Requesting, start};
+ghost use Rattle.judge.specs.Halves.{Opens, ReadsAll, Stripping, Requesting};
 
 // What is found of the rules and of the terms.
 pub struct Books {
@@ -32,8 +29,7 @@ pub struct Books {
 fn open_books(rules: &[u8], terms: &[u8], room: &mut [u32]) -> Books
     ensures { λ r. ⌜ Opens (now (rules .entry)) (now (terms .entry)) (now (room .entry)) (now (room .exit)) r ⌝ }
 {
-    fill_rules(rules, room);
-    fill_candidates(terms, room);
+    fill_tables(rules, terms, room);
     Books {
         rules: judge_file(rules, Kind::Rules),
         terms: judge_file(terms, Kind::Terms),
@@ -58,23 +54,6 @@ fn read_files(books: Books, goal: &[u8], strip: &[u8]) -> Read
                 },
             },
         },
-    }
-}
-
-// The root place: the goal file's goal, no clause supposed, no parameter open.
-fn first_place() -> Where
-    ensures { λ r. ⌜ r ≡ start ⌝ }
-{
-    Where {
-        goal: Spot {
-            source: Source::Goal,
-            at: 0,
-            base: 1085,
-            count: 0,
-        },
-        supposed: 0,
-        parameters: 0,
-        top: 1085,
     }
 }
 

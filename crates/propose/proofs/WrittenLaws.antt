@@ -1,12 +1,11 @@
 -- What a search writes, the checker's definition accepts: the bytes written, with the same rules, goal and terms, are read back as the strip found, which is a proof, with the height and nodes that the search told. And what is in the buffer then.
 use Prim.Native.Nat.{ℕ, _+_, _≤_}
 use mathlib.Core.Path.{_≡_, refl, sym, _∙_, ap, subst}
-use mathlib.Core.List.{List, [], _∷_, _++_}
+use mathlib.Core.List.{List}
 use native.Mathlib.Omega.{arith}
 use lib.ListN.{length, take, drop, length-append, length-drop}
 use lib.Seq.{take-append-seam, drop-append-seam}
-use Rattle.harrop.specs.Formula.{Clause, Strip, height, nodes}
-use Rattle.harrop.specs.Place.{Plain, atStart}
+use Rattle.harrop.specs.Formula.{Strip, height, nodes}
 use Rattle.harrop.specs.Proves.{ProvesAt}
 use Rattle.harrop.specs.Check.{Judged, checkAt}
 use Rattle.harrop.proofs.FirstLaws.{first-proves, first-within}
@@ -16,15 +15,12 @@ use Rattle.packet.specs.Sound.{SoundBooks, SoundFile, SoundPacket}
 use Rattle.packet.specs.Spells.{StripWords}
 use Rattle.packet.specs.Written.{stripSexp}
 use Rattle.packet.proofs.PacketLaws.{packet-only}
+use Rattle.room.proofs.StartLaws.{start-number}
 use Rattle.writer.specs.Spelled.{written}
 use Rattle.propose.specs.Proposed.{Comes, comesTo, over}
 use Rattle.propose.specs.Meaning.{start, offered, Searched, TheFirst, Told, wrote}
 use Rattle.writer.proofs.StripLaws.{proof-words, strip-nests}
 use Rattle.propose.proofs.MeaningLaws.{the-answer-is-the-table's}
-
-hand-length : (ds : List (Clause Plain)) → length (atStart ds) ≡ length ds
-hand-length [] = refl
-hand-length (d ∷ ds) = omega (arith, hand-length ds)
 
 -- a strip that is written: of which packet, and what is known of it
 pub record IsWritten (h size room : ℕ) (rs gs ts : List ℕ) (S : Strip) : Type 0 where
@@ -54,7 +50,7 @@ module _ {h size room : ℕ} {rs gs ts : List ℕ} {S : Strip} where
     written-words =
         let b = w .searched .books in
         proof-words (offered (w .books)) (omega (arith, b .goodCandidates .few)) written-proves
-        (omega (arith, hand-length (w .books .rules), b .goodRules .few, written-low, w .searched .low))
+        (omega (arith, start-number (w .books .rules), b .goodRules .few, written-low, w .searched .low))
 
     pub written-file : SoundFile stripSexp StripWords (written S) S
     written-file = record { short = w .short; spelt = refl; flat = omega (arith, strip-nests S, written-low, w .searched .low); words = written-words }

@@ -5,7 +5,7 @@ use mathlib.Core.Path.{_≡_}
 use mathlib.Core.List.{List, _++_}
 use mathlib.Core.Option.{Option, none, some}
 use lib.Dec.{ltb, leb}
-use lib.ListN.{length, drop, replicate}
+use lib.ListN.{length, drop}
 use Rattle.basics.specs.Choice.{choose}
 use Rattle.harrop.specs.Formula.{Strip, height, nodes}
 use Rattle.harrop.specs.Place.{listed, root}
@@ -17,6 +17,7 @@ use Rattle.packet.specs.declared.File.the-variants as F
 use Rattle.packet.specs.Numbers.{reasonNumber, fileNumber}
 use Rattle.packet.specs.File.{mostBytes, Outcome, Books, booksOf}
 use Rattle.room.specs.Layout.{words}
+use Rattle.room.specs.Start.{roomAfter}
 use Rattle.writer.specs.Spelled.{written}
 use Rattle.propose.specs.declared.Proposal.{Proposal}
 use Rattle.propose.specs.declared.Proposal.the-variants as P
@@ -73,10 +74,6 @@ left (Comes.refuses r f) buffer = buffer
 
 unfoldable pub bufferAfter : ℕ → ℕ → List ℕ → List ℕ → List ℕ → List ℕ → List ℕ
 bufferAfter h room rs gs ts buffer = left (comesTo h (length buffer) room rs gs ts) buffer
-
--- the room afterwards: zero in all cases but 11
-unfoldable pub roomAfter : List ℕ → List ℕ
-roomAfter room = choose (ltb (length room) words) room (replicate (length room) 0)
 
 -- the paper's numbers, for every case of the answer
 pub data Paper : Type 0 where

@@ -11,3 +11,4 @@ pub mod MoveLaws
 pub mod HighLaws
 pub mod TableLaws
 pub mod AtomLaws
+pub mod StartLaws

@@ -5,3 +5,4 @@ pub mod Table
 pub mod Where
 pub mod Term
 pub mod Head
+pub mod Start

@@ -4,6 +4,7 @@ mod equal;
 mod file;
 mod frame;
 mod moves;
+mod start;
 mod table;
 mod words;
 
@@ -21,8 +22,9 @@ pub use moves::plus;
 pub use moves::supposes;
 pub use moves::within;
 pub use moves::word_there;
-pub use table::fill_candidates;
-pub use table::fill_rules;
+pub use start::clear;
+pub use start::fill_tables;
+pub use start::first_place;
 pub use table::may_use;
 
 // Which file a formula or a term stands in.

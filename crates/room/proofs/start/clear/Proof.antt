@@ -1,4 +1,4 @@
--- `clear` of src/lib.rt meets its contract. Assumes nothing.
+-- `clear` of src/start.rt meets its contract. Assumes nothing.
 use mathlib.Core.Path.{_≡_, refl, ap, _∙_}
 use mathlib.Core.List.{List, _++_, append-nil}
 use Prim.Native.Nat.{ℕ, _≤_, _-_}
@@ -7,8 +7,8 @@ use lib.Seq.{drop-length}
 use borrow.Author.Fill.{fill-more}
 use native.Mathlib.Omega.{arith}
 use borrow.Author.Needs.{needs}
-use Rattle.judge.proofs.clear.Statement.{statement}
-use Rattle.judge.proofs.clear.Tie as tie
+use Rattle.room.proofs.start.clear.Statement.{statement}
+use Rattle.room.proofs.start.clear.Tie as tie
 
 -- a list filled to its end
 filled : (d : List ℕ) (n v : ℕ) → length d ≤ n → n ≤ length d → replicate n v ++ drop n d ≡ replicate (length d) v
