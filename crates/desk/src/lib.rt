@@ -2,7 +2,8 @@
 use judge::Verdict;
 ghost use mathlib.Core.Path.{_≡_};
 ghost use lib.ListN.{length};
-ghost use Rattle.judge.specs.Verdict.{paper, verdictOf, roomAfter};
+ghost use Rattle.room.specs.Start.{roomAfter};
+ghost use Rattle.judge.specs.Verdict.{paper, verdictOf};
 ghost use Rattle.desk.specs.Numbers.{verdictNumbers};
 
 // Judges a strip.
