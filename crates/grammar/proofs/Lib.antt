@@ -1,3 +1,5 @@
 pub mod Sets
 pub mod Ahead
 pub mod Machine
+pub mod Parts
+pub mod Recast

@@ -8,13 +8,13 @@ use mathlib.Core.List.{List, [], _∷_, _++_}
 use mathlib.Core.Option.{Option, none, some, Option·none-ne-some, Option·some-injective}
 use native.Mathlib.Omega.{arith}
 use native.Mathlib.Nat.{mul-suc}
-use lib.Dec.{eqb, ltb}
-use lib.ListN.{length}
-use borrow.Author.Tests.{eqb-true, eq-eqb, ltb-true, not-false, not-true}
+use lib.Dec.{eqb, ltb, leb}
+use lib.ListN.{length, length-append}
+use borrow.Author.Tests.{eqb-true, eq-eqb, ltb-true, leb-true}
 use Rattle.basics.specs.Choice.{choose, both-true, nope}
 use Rattle.basics.specs.Tells.{Tells}
 use Rattle.grammar.specs.Derives.{Symbol, the, any, Has, Derives, end, token, choice}
-use Rattle.grammar.specs.Machine.{Grammar, has, apart, ahead, starts, gone, expected, firstOf, chosen, run, accepts, total, paid, rightAll, clear, distinct, right}
+use Rattle.grammar.specs.Machine.{Grammar, has, apart, ahead, starts, gone, expected, firstOf, chosen, run, accepts, due, paid, rightAll, clear, distinct, right}
 use Rattle.grammar.proofs.Sets.{true-false, not-and, has-left, has-right, has-chosen, has-true, true-has, apart-has}
 use Rattle.grammar.proofs.Ahead.{First, first-append, Right, right-at, first, Fits, fits-choice}
 
@@ -47,10 +47,8 @@ module _ {T N : Type 0} (G : Grammar T N) where
   steps (token t) = suc (steps t)
   steps (choice alt a t) = suc (steps t)
 
-  total-append : (xs ss : List (Symbol T N)) → total G (xs ++ ss) ≡ total G xs + total G ss
-  total-append [] ss = omega arith
-  total-append (the a ∷ xs) ss = let h = total-append xs ss in omega arith
-  total-append (any m ∷ xs) ss = let h = total-append xs ss in omega arith
+  due-append : (s : Symbol T N) (xs ss : List (Symbol T N)) → due G (s ∷ (xs ++ ss)) ≡ due G (s ∷ xs) + length ss
+  due-append s xs ss = let h = length-append xs ss in omega arith
 
   module _ (once : (a b : T) → G .code a ≡ G .code b → a ≡ b) (rightly : (m : N) → right G m ≡ true) where
     -- the sets of two alternatives have no token in common, so the first that has the token is the one
@@ -84,7 +82,7 @@ module _ {T N : Type 0} (G : Grammar T N) where
             (first-append G false alt ss (ahead G false w) (first G once rightly false (alt ++ ss) w t))
 
     decided : (m : N) (alt ss : List (Symbol T N)) (w : List T) → Fits G once rightly (any m ∷ ss) → Has (G .alternatives m) alt → Derives (G .alternatives) (alt ++ ss) w → chosen G m (ahead G (G .looks m) w) ≡ some alt
-    decided m alt ss w f a t = first-is m (G .alternatives m) alt _ (both-true (rightAll G m (G .alternatives m)) _ (rightly m) .1) a (foreseen m alt ss w f a t)
+    decided m alt ss w f a t = first-is m (G .alternatives m) alt _ (both-true (distinct G m (G .alternatives m)) _ (both-true (rightAll G m (G .alternatives m)) _ (rightly m) .1) .0) a (foreseen m alt ss w f a t)
 
     -- a step on a name: what the name derives, its chosen alternative derives, and back; where none is chosen, nothing is derived
     pub step-down : (m : N) (alt ss : List (Symbol T N)) (w : List T) → Fits G once rightly (any m ∷ ss) → chosen G m (ahead G (G .looks m) w) ≡ some alt → Derives (G .alternatives) (any m ∷ ss) w → Derives (G .alternatives) (alt ++ ss) w
@@ -127,25 +125,41 @@ module _ {T N : Type 0} (G : Grammar T N) where
         ap (λ (o : Option (List (Symbol T N))). elim o as (λ x. Bool) [ none ↦ false | some y ↦ run G f (y ++ ss) w ]) (decided m alt ss w h a t)
         ∙ derived-accepts t f (fits-choice G once rightly m alt ss a h) (omega arith)
 
-    -- the steps that a derivation takes: each token pays for the names that it begins
-    pub few-steps : {ss : List (Symbol T N)} {w : List T} (t : Derives (G .alternatives) ss w) → steps t ≤ total G ss + G .per * length w
+    -- a name costs something, and no more than a token pays and an entry
+    name-costs : (m : N) → (0 < G .cost m) × (G .cost m ≤ suc (G .pay))
+    name-costs m =
+        let (x, y) = both-true (rightAll G m (G .alternatives m)) _ (rightly m) in
+        let (z, u) = both-true (distinct G m (G .alternatives m)) _ y in
+        let (p, q) = both-true (ltb 0 (G .cost m)) _ u in
+        (ltb-true 0 (G .cost m) p, leb-true (G .cost m) (suc (G .pay)) q)
+
+    -- a stack has no more entries than it costs, and with one entry more on it costs no more than that entry and a token
+    pub few-entries : (ss : List (Symbol T N)) → length ss ≤ due G ss
+    few-entries [] = omega arith
+    few-entries (the a ∷ ss) = omega arith
+    few-entries (any m ∷ ss) = let (p, q) = name-costs m in omega arith
+
+    pub due-below : (ss : List (Symbol T N)) → due G ss ≤ length ss + G .pay
+    due-below [] = omega arith
+    due-below (the a ∷ ss) = omega arith
+    due-below (any m ∷ ss) = let (p, q) = name-costs m in omega arith
+
+    -- a step on a name makes the stack cheaper
+    pub due-falls : (m : N) (alt ss : List (Symbol T N)) → Has (G .alternatives m) alt → due G (alt ++ ss) < due G (any m ∷ ss)
+    due-falls m [] ss a =
+        let p = ltb-true (G .pay) (G .cost m) (right-at G m [] (rightly m) a .pays) in
+        let h = due-below ss in
+        omega arith
+    due-falls m (s ∷ r) ss a =
+        let p = ltb-true (due G (s ∷ r)) (G .cost m) (right-at G m (s ∷ r) (rightly m) a .pays) in
+        let h = due-append s r ss in
+        omega arith
+
+    -- the steps that a derivation takes
+    pub few-steps : {ss : List (Symbol T N)} {w : List T} (t : Derives (G .alternatives) ss w) → steps t ≤ due G ss + G .pay * length w
     few-steps end = omega arith
-    few-steps (token {w = w} t) = let h = few-steps t in let e = mul-suc (G .per) (length w) in omega arith
-    few-steps (choice {m} {ss} {w} [] a t) =
-        let h = few-steps t in
-        let p = ltb-true 0 (G .weight m) (right-at G m [] (rightly m) a .pays) in
-        omega arith
-    few-steps (choice {m} {ss} (the b ∷ r) a (token {w = u} t)) =
-        let h = few-steps t in
-        let p = ltb-true (suc (total G r)) (G .weight m + G .per) (right-at G m (the b ∷ r) (rightly m) a .pays) in
-        let e = mul-suc (G .per) (length u) in
-        let q = total-append r ss in
-        omega arith
-    few-steps (choice {m} {ss} (any k ∷ r) a t) =
-        let h = few-steps t in
-        let p = ltb-true (total G (any k ∷ r)) (G .weight m) (right-at G m (any k ∷ r) (rightly m) a .pays) in
-        let q = total-append r ss in
-        omega arith
+    few-steps (token {ss} {w} t) = let h = few-steps t in let e = mul-suc (G .pay) (length w) in let b = due-below ss in omega arith
+    few-steps (choice {m} {ss} alt a t) = let h = few-steps t in let f = due-falls m alt ss a in omega arith
 
     -- THE LAW: a row of tokens is accepted exactly if the name derives it
     pub accepts-exactly : (m : N) (w : List T) → has G (G .follows m) none ≡ true → Tells (accepts G m w) (Derives (G .alternatives) (any m ∷ []) w)
@@ -156,5 +170,5 @@ module _ {T N : Type 0} (G : Grammar T N) where
         fits = (λ d h. subst (Has (G .follows m)) (sym h) (has-true G once (G .follows m) none e), tt)
 
         go : (b : Bool) → accepts G m w ≡ b → Tells b (Derives (G .alternatives) (any m ∷ []) w)
-        go true q = accepted-derives (suc (G .weight m + G .per * length w)) (any m ∷ []) w q
-        go false q = λ t. let h = few-steps t in true-false (derived-accepts t (suc (G .weight m + G .per * length w)) fits (omega arith)) q
+        go true q = accepted-derives (suc (G .cost m + G .pay * length w)) (any m ∷ []) w q
+        go false q = λ t. let h = few-steps t in true-false (derived-accepts t (suc (G .cost m + G .pay * length w)) fits (omega arith)) q

@@ -1,2 +1,3 @@
 pub mod Derives
 pub mod Machine
+pub mod Recast

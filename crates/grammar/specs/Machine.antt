@@ -5,7 +5,7 @@ use Prim.Native.Nat.{ℕ, zero, suc, _+_, _*_}
 use mathlib.Core.Bool.{Bool, true, false, _&&_, _||_, not}
 use mathlib.Core.List.{List, [], _∷_, _++_}
 use mathlib.Core.Option.{Option, none, some}
-use lib.Dec.{eqb, ltb}
+use lib.Dec.{eqb, ltb, leb}
 use lib.ListN.{length}
 use Rattle.basics.specs.Choice.{choose}
 use Rattle.grammar.specs.Derives.{Symbol, the, any}
@@ -21,9 +21,9 @@ pub record Grammar (T N : Type 0) : Type 0 where
   pub begins : Bool → N → List (Option T)
   pub vanishes : Bool → N → Bool
   pub follows : N → List (Option T)
-  -- what a name and a token cost: so many steps at most, and so many entries of the stack
-  pub weight : N → ℕ
-  pub per : ℕ
+  -- what a name on top of the stack costs, and what a token pays: they bound the steps and the stack
+  pub cost : N → ℕ
+  pub pay : ℕ
 
 module _ {T N : Type 0} (G : Grammar T N) where
   -- the number of a token, and of the end
@@ -81,13 +81,16 @@ module _ {T N : Type 0} (G : Grammar T N) where
   run (suc f) (any m ∷ ss) w = elim (chosen m (ahead (G .looks m) w)) [ none ↦ false | some alt ↦ run f (alt ++ ss) w ]
 
   unfoldable pub accepts : N → List T → Bool
-  accepts m w = run (suc (G .weight m + G .per * length w)) (any m ∷ []) w
+  accepts m w = run (suc (G .cost m + G .pay * length w)) (any m ∷ []) w
 
-  -- what a stack costs
-  abbrev pub total : List (Symbol T N) → ℕ
-  total [] = 0
-  total (the a ∷ ss) = suc (total ss)
-  total (any m ∷ ss) = G .weight m + total ss
+  -- what a stack costs: its top, and one for each entry below
+  abbrev pub costOf : Symbol T N → ℕ
+  costOf (the a) = 1
+  costOf (any m) = G .cost m
+
+  abbrev pub due : List (Symbol T N) → ℕ
+  due [] = G .pay
+  due (s ∷ ss) = costOf s + length ss
 
   -- The test of the sets. An alternative of m begins with what m begins with, and is nothing only where m may be.
   abbrev pub opens : Bool → N → List (Symbol T N) → Bool
@@ -100,11 +103,9 @@ module _ {T N : Type 0} (G : Grammar T N) where
   followed m (any k ∷ ss) =
       (within (starts false ss) (G .follows k) && (not (gone false ss) || within (G .follows m) (G .follows k))) && followed m ss
 
-  -- an alternative costs less than its name; where it begins with a token, that pays too
+  -- a stack with an alternative of m on top costs less than with m
   abbrev pub paid : N → List (Symbol T N) → Bool
-  paid m [] = ltb 0 (G .weight m)
-  paid m (the a ∷ ss) = ltb (suc (total ss)) (G .weight m + G .per)
-  paid m (any k ∷ ss) = ltb (total (any k ∷ ss)) (G .weight m)
+  paid m alt = ltb (due alt) (G .cost m)
 
   abbrev pub rightOne : N → List (Symbol T N) → Bool
   rightOne m alt =
@@ -123,5 +124,6 @@ module _ {T N : Type 0} (G : Grammar T N) where
   distinct m [] = true
   distinct m (x ∷ xs) = clear m x xs && distinct m xs
 
+  -- all of it, and no name costs more than a token pays and an entry
   abbrev pub right : N → Bool
-  right m = rightAll m (G .alternatives m) && distinct m (G .alternatives m)
+  right m = rightAll m (G .alternatives m) && (distinct m (G .alternatives m) && (ltb 0 (G .cost m) && leb (G .cost m) (suc (G .pay))))

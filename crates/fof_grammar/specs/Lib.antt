@@ -1,0 +1,5 @@
+pub mod Terminal
+pub mod Name
+pub mod Aids
+pub mod Grammar
+pub mod Decided

@@ -1,0 +1,1 @@
+// TPTP's grammar of `fof` lines (document 02, request One), and whether a text is such lines.
