@@ -1,4 +1,4 @@
-// The tokens of TPTP's `fof` lines (document 02, request One).
+// The tokens of TPTP's `fof` lines (document 02, request One): their kinds, and what may be next in a text.
 
 // The kinds of token. The signs are named after what they say in a formula.
 pub enum Kind {
@@ -68,4 +68,18 @@ pub enum Kind {
     Nand,
     // -->
     Sequent,
+}
+
+// What comes next in a text.
+pub enum Lexed {
+    // no more tokens
+    End,
+    // something that is no token, no space and no comment
+    Bad,
+    // a token, from the byte at `start` to the one before `end`
+    Token {
+        kind: Kind,
+        start: usize,
+        end: usize,
+    },
 }
