@@ -1,7 +1,7 @@
 pub mod ProvableLaws
 pub mod WalkLaws
-pub mod HeadLaws
 pub mod ReadyLaws
 pub mod HandLaws
 pub mod ProvingLaws
+pub mod HeadlessLaws
 pub mod PassingLaws

@@ -43,8 +43,10 @@ use Rattle.provable.specs.Provable as spec
 use Rattle.provable.specs.Proving.{Ready, Taken, Answers, Proving, ProvingBy, Passing, PassingAs, PassingWith, passes, passesWith}
 use Rattle.provable.specs.declared.Chosen.{Chosen}
 use Rattle.provable.specs.declared.Chosen.the-variants as C
+use Rattle.heads.specs.Predicate.{HasHead}
+use Rattle.provable.proofs.HeadlessLaws.{headless}
 use Rattle.provable.proofs.WalkLaws.{any-here, any-none}
-use Rattle.provable.proofs.HeadLaws.{clause-says, clause-is, clause-has-row, heads, first-part, second-found, first-found}
+use Rattle.heads.proofs.HeadLaws.{clause-says, clause-is, clause-has-row, heads, first-part, second-found, first-found}
 use Rattle.provable.proofs.ReadyLaws.{may-be, allowed-below, ready-kept}
 use Rattle.provable.proofs.HandLaws.{opened-none, opened-clause}
 use Rattle.provable.proofs.ProvingLaws.{bytesAt, and-no, and-yes, or-yes, or-no, proving-at, both-of}
@@ -314,4 +316,19 @@ module _ {f : Files} {room after : List ℕ} {w : Where} {left : ℕ} (k : ℕ) 
       record {
         kept = kept-then room after last (omega arith) (omega (arith, z .taken .fresh)) (z .kept) (b .kept);
         answer = b .answer ∙ ap (λ (n : Option (AtHand Plain)). maybe n false λ d. passes us left o c bs a (d .clause) (d .bindings)) (sym (z .there));
+      }
+
+  -- no head of the clause has the atom's predicate
+  pub by-headless : {q : Chosen} {y : Spot} {s : Bool} → Opened room after k (w .supposed) (w .top) q → q ≡ C.Clause y → HasHead f y (w .goal) 64 s → s ≡ false → ProvingBy f room after w k left false
+  unfolding spec.clauseDoes
+  by-headless {y = y} p e m n ds us o c bs a r =
+      let z = opened-clause r k (subst (Opened room after k (w .supposed) (w .top)) e p) in
+      let t = z .taken in
+      let place = t .ready .place in
+      let h = m (z .clause .clause) a (omega (arith, t .framed .shallow)) (record { stands = t .framed .stands; shallow = omega (arith, t .framed .shallow); small = file-small (place .booked) (y .source) }) (record { stands = place .framed .stands; shallow = omega (arith, place .framed .shallow) }) in
+      record {
+        kept = z .kept;
+        answer =
+            sym (headless (listed us) o bs a (λ g ds. spec.provable (listed us) left o c ds g) (z .clause .clause) (z .clause .bindings) (sym h ∙ n))
+            ∙ ap (λ (n : Option (AtHand Plain)). maybe n false λ d. passes us left o c bs a (d .clause) (d .bindings)) (sym (z .there));
       }

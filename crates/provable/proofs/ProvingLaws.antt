@@ -35,7 +35,7 @@ use Rattle.room.proofs.MoveLaws.{suppose-keeps}
 use Rattle.provable.specs.Provable as spec
 use Rattle.provable.specs.Proving.{Ready, Answers, Proving, ProvingAs, ProvingWith, ProvingBy, provesWith}
 use Rattle.provable.proofs.WalkLaws.{any-here, any-none}
-use Rattle.provable.proofs.HeadLaws.{goal-says, goal-is, goal-has-row, heads, first-part, second-found, first-found}
+use Rattle.heads.proofs.HeadLaws.{goal-says, goal-is, goal-has-row, heads, first-part, second-found, first-found}
 use Rattle.provable.proofs.ReadyLaws.{may-be, allowed-below, ready-kept, ready-part, ready-with, ready-all, ready-under}
 
 -- the file of a spot

@@ -1,4 +1,3 @@
 pub mod Provable
-pub mod Heads
 pub mod Hand
 pub mod Proving

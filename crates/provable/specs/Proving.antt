@@ -18,7 +18,7 @@ use Rattle.room.specs.Where.{Files, Kept, Framed, Means}
 use Rattle.room.specs.declared.Spot.{Spot}
 use Rattle.room.specs.declared.Where.{Where}
 use Rattle.provable.specs.Provable as provable
-use Rattle.provable.specs.Heads.{goalWord, clauseWord}
+use Rattle.heads.specs.Heads.{goalWord, clauseWord}
 
 -- what is given where a goal is searched: the place, and enough of the room for the height
 pub record Ready (f : Files) (room : List ℕ) (ds : List (Clause Plain)) (us : List Term) (w : Where) (height : ℕ) (o : List Plain) (c : Hand Plain) (bs : Bindings) (g : Goal Plain) : Type 0 where

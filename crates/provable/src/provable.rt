@@ -6,6 +6,7 @@ use crate::hand::clauses;
 use crate::hand::deeper;
 use crate::hand::open_clause;
 use harrop::Binding;
+use heads::has_head;
 use packet::Word;
 use room::Spot;
 use room::Where;
@@ -195,7 +196,7 @@ fn prove_atom<'a>(
     false
 }
 
-// Clause k for an atom, with a frame of its own.
+// Clause k for an atom, with a frame of its own. Its heads are looked at before any candidate is tried (document 02, Three).
 pub fn use_clause<'a>(
     rules: &'a [u8],
     goal: &'a [u8],
@@ -210,6 +211,9 @@ pub fn use_clause<'a>(
     let Chosen::Clause(x) = open_clause(room, k, w.supposed, w.top) else {
         return false;
     };
+    if !has_head(rules, goal, terms, x, w.goal, 64) {
+        return false;
+    }
     through(rules, goal, terms, room, w, x, 64, left)
 }
 

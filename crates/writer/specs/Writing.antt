@@ -16,7 +16,7 @@ use Rattle.room.specs.declared.Spot.{Spot}
 use Rattle.room.specs.declared.Where.{Where}
 use Rattle.provable.specs.Provable.{serves}
 use Rattle.provable.specs.Proving.{Ready, Taken, provesWith, passesWith}
-use Rattle.provable.specs.Heads.{goalWord, clauseWord}
+use Rattle.heads.specs.Heads.{goalWord, clauseWord}
 use Rattle.writer.specs.Chosen.{candidateFrom, clauseFrom, way}
 use Rattle.writer.specs.Drawn.{Draws, DrawsRest, ended}
 use Rattle.writer.specs.declared.Drawn.{Drawn}

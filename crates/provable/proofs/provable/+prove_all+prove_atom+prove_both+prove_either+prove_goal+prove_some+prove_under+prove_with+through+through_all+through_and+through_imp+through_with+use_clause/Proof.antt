@@ -14,6 +14,7 @@ use Rattle.room.specs.Frame.{bindingWord, held}
 use Rattle.room.specs.Where.{filesOf}
 use Rattle.provable.proofs.ProvingLaws as laws
 use Rattle.provable.proofs.PassingLaws as passing
+use Rattle.heads.proofs.has_head.Reads as has-head-reads
 use borrow.Fn.Kinds.{In}
 use borrow.Fn.PlainCycle.{Measures, is, falls, and}
 use Rattle.provable.proofs.provable.prove_all.Reads as prove-all
@@ -976,37 +977,49 @@ through-with-returns-2 : (t : ℕ) → through-with-lts.Need-returns-2 (may-use-
 through-with-returns-2 t c = let x = c .before .before .before .before .before .before .before .before .before .before .before .before .before .before .before .before .before .args in
     passing.with-goes (x .i) (x .nest) (c .before .before .before .before .before .before .before .before .before .before .before .may-use .result) (c .before .before .before .before .before .before .before .before .before .before .before .may-use .ensures) (not-false (c .before .before .before .before .before .before .before .before .before .before .before .may-use .result) (c .before .before .before .before .before .before .before .before .before .before .if1 .left)) (c .before .before .before .deeper .ensures) (passing.passing-from (c .before .before .before .before .before .before .before .push .ensures ∙ ap (λ (j : ℕ). set (x .room .now) j (held (bindingWord (Candidate (x .i))))) (c .before .before .before .before .before .before .before .before .plus .ensures)) (c .before .before .through .ensures))
 
--- src/provable.rt:210:29
-use-clause-open-clause-requires : (t : ℕ) → use-clause-lts.Need-open-clause-requires (open-clause-reads.Asked, open-clause-reads.Learnt, through-below t, through.Post) (use-clause-at t) use-clause.Post
+-- src/provable.rt:211:29
+use-clause-open-clause-requires : (t : ℕ) → use-clause-lts.Need-open-clause-requires (open-clause-reads.Asked, open-clause-reads.Learnt, has-head-reads.Asked, has-head-reads.Learnt, through-below t, through.Post) (use-clause-at t) use-clause.Post
 use-clause-open-clause-requires t c κs = search needs
 
--- src/provable.rt:210:24
-use-clause-enum-known-x : (t : ℕ) → use-clause-lts.Need-enum-known-x (open-clause-reads.Asked, open-clause-reads.Learnt, through-below t, through.Post) (use-clause-at t) use-clause.Post
+-- src/provable.rt:211:24
+use-clause-enum-known-x : (t : ℕ) → use-clause-lts.Need-enum-known-x (open-clause-reads.Asked, open-clause-reads.Learnt, has-head-reads.Asked, has-head-reads.Learnt, through-below t, through.Post) (use-clause-at t) use-clause.Post
 use-clause-enum-known-x t c = search needs
 
--- src/provable.rt:211:9
-use-clause-enum-told : (t : ℕ) → use-clause-lts.Need-enum-told (open-clause-reads.Asked, open-clause-reads.Learnt, through-below t, through.Post) (use-clause-at t) use-clause.Post
+-- src/provable.rt:212:9
+use-clause-enum-told : (t : ℕ) → use-clause-lts.Need-enum-told (open-clause-reads.Asked, open-clause-reads.Learnt, has-head-reads.Asked, has-head-reads.Learnt, through-below t, through.Post) (use-clause-at t) use-clause.Post
 use-clause-enum-told t c = search needs
 
--- src/provable.rt:211:9
-use-clause-same-length : (t : ℕ) → use-clause-lts.Need-same-length (open-clause-reads.Asked, open-clause-reads.Learnt, through-below t, through.Post) (use-clause-at t) use-clause.Post
+-- src/provable.rt:212:9
+use-clause-same-length : (t : ℕ) → use-clause-lts.Need-same-length (open-clause-reads.Asked, open-clause-reads.Learnt, has-head-reads.Asked, has-head-reads.Learnt, through-below t, through.Post) (use-clause-at t) use-clause.Post
 use-clause-same-length t c = search needs
 
--- src/provable.rt:211:9
-use-clause-returns : (t : ℕ) → use-clause-lts.Need-returns (open-clause-reads.Asked, open-clause-reads.Learnt, through-below t, through.Post) (use-clause-at t) use-clause.Post
+-- src/provable.rt:212:9
+use-clause-returns : (t : ℕ) → use-clause-lts.Need-returns (open-clause-reads.Asked, open-clause-reads.Learnt, has-head-reads.Asked, has-head-reads.Learnt, through-below t, through.Post) (use-clause-at t) use-clause.Post
 use-clause-returns t c = passing.by-none (c .before .before .before .before .before .before .before .before .before .before .args .k) (c .before .before .before .before .open-clause .ensures) (c .enum-told .given .1)
 
--- src/provable.rt:213:5
-use-clause-through-requires : (t : ℕ) → use-clause-lts.Need-through-requires (open-clause-reads.Asked, open-clause-reads.Learnt, through-below t, through.Post) (use-clause-at t) use-clause.Post
-use-clause-through-requires t c κs = search needs
+-- src/provable.rt:214:9
+use-clause-has-head-requires : (t : ℕ) → use-clause-lts.Need-has-head-requires (open-clause-reads.Asked, open-clause-reads.Learnt, has-head-reads.Asked, has-head-reads.Learnt, through-below t, through.Post) (use-clause-at t) use-clause.Post
+use-clause-has-head-requires t c κs = search needs
 
--- src/provable.rt:199:1
-use-clause-same-length-2 : (t : ℕ) → use-clause-lts.Need-same-length-2 (open-clause-reads.Asked, open-clause-reads.Learnt, through-below t, through.Post) (use-clause-at t) use-clause.Post
+-- src/provable.rt:215:9
+use-clause-same-length-2 : (t : ℕ) → use-clause-lts.Need-same-length-2 (open-clause-reads.Asked, open-clause-reads.Learnt, has-head-reads.Asked, has-head-reads.Learnt, through-below t, through.Post) (use-clause-at t) use-clause.Post
 use-clause-same-length-2 t c = search needs
 
--- src/provable.rt:199:1
-use-clause-returns-2 : (t : ℕ) → use-clause-lts.Need-returns-2 (open-clause-reads.Asked, open-clause-reads.Learnt, through-below t, through.Post) (use-clause-at t) use-clause.Post
-use-clause-returns-2 t c = passing.by-clause (c .before .before .before .before .before .before .before .before .before .before .before .before .before .before .before .args .k) (c .before .before .before .before .before .before .before .before .before .open-clause .ensures) (c .before .before .before .before .before .x .given .1) (c .before .before .through .ensures)
+-- src/provable.rt:215:9
+use-clause-returns-2 : (t : ℕ) → use-clause-lts.Need-returns-2 (open-clause-reads.Asked, open-clause-reads.Learnt, has-head-reads.Asked, has-head-reads.Learnt, through-below t, through.Post) (use-clause-at t) use-clause.Post
+use-clause-returns-2 t c = passing.by-headless (c .before .before .before .before .before .before .before .before .before .before .before .before .before .args .k) (c .before .before .before .before .before .before .before .open-clause .ensures) (c .before .before .before .x .given .1) (c .before .has-head .ensures) (not-true (c .before .has-head .result) (c .if1 .taken))
+
+-- src/provable.rt:217:5
+use-clause-through-requires : (t : ℕ) → use-clause-lts.Need-through-requires (open-clause-reads.Asked, open-clause-reads.Learnt, has-head-reads.Asked, has-head-reads.Learnt, through-below t, through.Post) (use-clause-at t) use-clause.Post
+use-clause-through-requires t c κs = search needs
+
+-- src/provable.rt:200:1
+use-clause-same-length-3 : (t : ℕ) → use-clause-lts.Need-same-length-3 (open-clause-reads.Asked, open-clause-reads.Learnt, has-head-reads.Asked, has-head-reads.Learnt, through-below t, through.Post) (use-clause-at t) use-clause.Post
+use-clause-same-length-3 t c = search needs
+
+-- src/provable.rt:200:1
+use-clause-returns-3 : (t : ℕ) → use-clause-lts.Need-returns-3 (open-clause-reads.Asked, open-clause-reads.Learnt, has-head-reads.Asked, has-head-reads.Learnt, through-below t, through.Post) (use-clause-at t) use-clause.Post
+use-clause-returns-3 t c = passing.by-clause (c .before .before .before .before .before .before .before .before .before .before .before .before .before .before .before .before .before .args .k) (c .before .before .before .before .before .before .before .before .before .before .before .open-clause .ensures) (c .before .before .before .before .before .before .before .x .given .1) (c .before .before .through .ensures)
 
 pub +prove-all+prove-atom+prove-both+prove-either+prove-goal+prove-some+prove-under+prove-with+through+through-all+through-and+through-imp+through-with+use-clause-spec :
     {M : Type 1} → statement M
@@ -1353,8 +1366,14 @@ pub +prove-all+prove-atom+prove-both+prove-either+prove-goal+prove-some+prove-un
     (through-with-through-requires t)
     (through-with-same-length-2 t)
     (through-with-returns-2 t))
-    λ t. use-clause-lts.spec
-    (open-clause-reads.Asked, open-clause-reads.Learnt, through-below t, through.Post)
+    λ t. use-clause-lts.spec (
+      open-clause-reads.Asked,
+      open-clause-reads.Learnt,
+      has-head-reads.Asked,
+      has-head-reads.Learnt,
+      through-below t,
+      through.Post,
+    )
     (use-clause-at t)
     use-clause.Post
     (use-clause-open-clause-requires t)
@@ -1362,6 +1381,9 @@ pub +prove-all+prove-atom+prove-both+prove-either+prove-goal+prove-some+prove-un
     (use-clause-enum-told t)
     (use-clause-same-length t)
     (use-clause-returns t)
-    (use-clause-through-requires t)
+    (use-clause-has-head-requires t)
     (use-clause-same-length-2 t)
     (use-clause-returns-2 t)
+    (use-clause-through-requires t)
+    (use-clause-same-length-3 t)
+    (use-clause-returns-3 t)

@@ -25,7 +25,7 @@ use Rattle.packet.specs.declared.Kind.the-variants as K
 use Rattle.packet.specs.declared.table.Row.{Row}
 use Rattle.packet.specs.declared.table.Row.the-variants as R
 use Rattle.packet.specs.Rows.{rowOf}
-use Rattle.provable.specs.Heads.{goalWord, clauseWord, GoalShape, ClauseShape}
+use Rattle.heads.specs.Heads.{goalWord, clauseWord, GoalShape, ClauseShape}
 
 -- an expression at an offset of a file, and of the part of the file from a spot on
 pub part-stands : {s : List ℕ} {at : ℕ} {e : Sexp} → Stands s at e → Stands (drop at s) 0 e
