@@ -43,7 +43,7 @@ use Rattle.provable.specs.Provable as spec
 use Rattle.provable.specs.Proving.{Ready, Taken, Passing}
 use Rattle.provable.specs.declared.Chosen.{Chosen}
 use Rattle.provable.specs.declared.Chosen.the-variants as C
-use Rattle.provable.proofs.HeadLaws.{goal-is, clause-says, clause-is, clause-has-row, heads, first-part, second-found, first-found}
+use Rattle.heads.proofs.HeadLaws.{goal-is, clause-says, clause-is, clause-has-row, heads, first-part, second-found, first-found}
 use Rattle.provable.proofs.ReadyLaws.{allowed-below, ready-kept}
 use Rattle.provable.proofs.HandLaws.{opened-none, opened-clause}
 use Rattle.provable.proofs.ProvingLaws.{bytesAt, both-of}

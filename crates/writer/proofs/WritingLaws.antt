@@ -37,7 +37,7 @@ use Rattle.room.proofs.WhereLaws.{kept-then, push-keeps}
 use Rattle.room.proofs.MoveLaws.{suppose-keeps}
 use Rattle.provable.specs.Provable.{provable}
 use Rattle.provable.specs.Proving.{Ready, Proving, provesWith}
-use Rattle.provable.proofs.HeadLaws.{goal-says, goal-is, goal-has-row, heads, first-part, second-found, first-found}
+use Rattle.heads.proofs.HeadLaws.{goal-says, goal-is, goal-has-row, heads, first-part, second-found, first-found}
 use Rattle.provable.proofs.ReadyLaws.{ready-kept, ready-part, ready-with, ready-all, ready-under}
 use Rattle.provable.proofs.ProvingLaws.{bytesAt, both-of, proving-at}
 use Rattle.writer.specs.Spelled.{numeral}
