@@ -35,6 +35,7 @@ stored_halves() {
 { "$second" packet-cases 1; "$second" packet-cases 2; } | "$second" packet-counts
 { "$second" judge-cases 1; "$second" judge-cases 2; } | "$second" judge-counts
 "$second" search-cases | "$second" search-counts
+for part in 1 2 3 4; do "$second" tptp-cases "$part"; done | "$second" tptp-counts
 
 stored carrier_cases carrier
 stored_parts packet_cases packet

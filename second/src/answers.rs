@@ -68,7 +68,8 @@ pub fn starting(lines: &[String], words: &str) -> usize {
         .count()
 }
 
-fn number(octets: &[u8]) -> Result<usize, String> {
+/// A number in a case file.
+pub fn number(octets: &[u8]) -> Result<usize, String> {
     batch::number(octets).ok_or_else(|| format!("no number: {octets:?}"))
 }
 
@@ -155,7 +156,8 @@ pub fn search_counts(bytes: &[u8]) -> Result<Vec<(String, usize)>, String> {
     Ok(counts)
 }
 
-fn add(counts: &mut [usize], seen: &[bool]) {
+/// Counts what was seen.
+pub fn add(counts: &mut [usize], seen: &[bool]) {
     counts.iter_mut().zip(seen).for_each(|(count, seen)| *count += usize::from(*seen));
 }
 

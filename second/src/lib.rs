@@ -16,5 +16,6 @@ pub mod search;
 pub mod spell;
 pub mod strip;
 pub mod table;
+pub mod tptp;
 pub mod trees;
 pub mod verdict;

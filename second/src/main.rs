@@ -5,7 +5,7 @@ use std::process::ExitCode;
 
 use second::search::Search;
 use second::verdict::{Files, HEIGHT};
-use second::{answers, make};
+use second::{answers, make, tptp};
 
 fn main() -> ExitCode {
     let words: Vec<String> = std::env::args().skip(1).collect();
@@ -36,6 +36,10 @@ fn run(words: &[String]) -> Result<Vec<u8>, String> {
         "search-cases" => Ok(make::searching::cases()),
         "search-answers" => answers::searched(&input()?, places(words)).map(lines),
         "search-counts" => counts(answers::search_counts(&input()?)?),
+        "tptp-cases" => Ok(make::tptp::cases(part(words, make::tptp::PARTS)?)),
+        "tptp-answers" => tptp::answers::answers(&input()?).map(lines),
+        "tptp-counts" => counts(tptp::answers::counts(&input()?)?),
+        "tptp" => convert(words),
         "judge" => judge(words),
         "search" => search(words),
         "looks" => looks(words),
@@ -63,6 +67,13 @@ fn search(words: &[String]) -> Result<Vec<u8>, String> {
     let [rules, goal, terms] = ["rules.sx", "goal.sx", "terms.sx"].map(|name| file(folder, name));
     let files = Files { rules: &rules, goal: &goal, terms: &terms };
     Ok(lines(vec![answers::search_line(files, height, size, places(words))]))
+}
+
+/// `tptp FILE`: the rules and the goal that a TPTP text becomes.
+fn convert(words: &[String]) -> Result<Vec<u8>, String> {
+    let name = words.get(1).ok_or("tptp FILE")?;
+    let text = std::fs::read(name).unwrap_or_default();
+    Ok(lines(vec![tptp::deep(|| tptp::answers::line(&text, 16_384, 16_384))]))
 }
 
 /// `looks DIR HEIGHT`: how many places and clauses that search looks at.

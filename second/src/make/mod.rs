@@ -10,4 +10,6 @@ pub mod packets;
 pub mod proofs;
 pub mod searching;
 pub mod sizes;
+pub mod texts;
+pub mod tptp;
 pub mod wanted;
