@@ -1,6 +1,6 @@
 -- What a book comes to is what it means (Meaning), exactly, over all lines and all buffers; and the rules and the goal of a book have, one by one and in file order, the truth of its axioms and
 -- of its conjecture.
-use Prim.Native.Nat.{ℕ, _≤_, _<_, min}
+use Prim.Native.Nat.{ℕ, _≤_, min}
 use mathlib.Core.Path.{_≡_, refl, sym, _∙_, ap, ap₂, subst}
 use mathlib.Core.Bool.{Bool, true, false, _||_, false≢true}
 use mathlib.Core.List.{List, [], _∷_, map}
@@ -9,8 +9,8 @@ use mathlib.Core.Option.{Option, none, some, Option·some-injective}
 use native.Mathlib.Omega.{arith}
 use lib.Dec.{ltb}
 use lib.ListN.{length}
-use borrow.Author.Tests.{ltb-true, ltb-false, le-ltb}
-use Rattle.basics.specs.Choice.{choose, _>>=_, maybe, nope, bind-some}
+use borrow.Author.Tests.{ltb-false, le-ltb}
+use Rattle.basics.specs.Choice.{choose, maybe, nope, bind-some}
 use Rattle.harrop.specs.Formula.{Name, Goal, Clause}
 use Rattle.harrop.specs.Place.{Plain}
 use Rattle.sexp.specs.Sexp.{nesting}
@@ -20,14 +20,13 @@ use Rattle.calculus.specs.Formula as numbered
 use Rattle.calculus.specs.Translation.{goalFormula, clauseFormula}
 use Rattle.fof_truth.specs.Formula.{Formula, Role, Line}
 use Rattle.fof_truth.specs.Truth.{Logic, Structure, truth, plainTruth}
-use Rattle.fof_truth.specs.Numbered.{formulaIn}
 use Rattle.fof_truth.specs.Sentence.{asGoal, asClause, Sentence, sentenceFormula, inRole, sentenceOf}
 use Rattle.fof_truth.specs.Part.{axiomThen, axioms, conjectureThen, conjectures, BookInPart}
 use Rattle.fof_truth.specs.Book.{sentencesOf, rulesIn, goalsIn, onlyOne, Book, withGoal, bookIn, rulesFile, goalFile, Why, Outcome, isMany, isDeep, isLong, sized, bookOf}
 use Rattle.fof_truth.specs.Meaning.{Few, Flat, Short, Becomes, Means, outside, tooMany, tooDeep, tooLong, written}
 use Rattle.fof_truth.proofs.SentenceLaws.{one-some, two-some, turned}
 use Rattle.fof_truth.proofs.TruthLaws.{what-is-written-is-as-true}
-use Rattle.fof_truth.proofs.PartLaws.{Has, book-exactly}
+use Rattle.fof_truth.proofs.PartLaws.{book-exactly}
 
 -- a test that says no exactly if a statement holds
 abbrev NoWhen : Bool → Type 0 → Type 0

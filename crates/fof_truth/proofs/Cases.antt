@@ -1,11 +1,8 @@
 -- The books of specs/Cases are answered as stated, by computing.
-use Prim.Native.Nat.{ℕ}
 use mathlib.Core.Path.{_≡_, refl}
-use mathlib.Core.List.{List, map}
-use mathlib.Core.Option.{Option}
+use mathlib.Core.List.{map}
 use Rattle.sexp.specs.Decimal.{decimalOnto, decimal, isDigit}
 use Rattle.sexp.specs.Words.{isName, isLetter, every, isNameOctet}
-use Rattle.fof_truth.specs.Formula.{Formula}
 use Rattle.fof_truth.specs.Book.{sized, bookOf}
 use Rattle.fof_truth.specs.Cases.{Row, goalText, rulesText, goals, rules, Answer, Asked, answerTo, books}
 

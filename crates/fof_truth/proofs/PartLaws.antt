@@ -1,6 +1,6 @@
 -- A line becomes a rule or a goal exactly if it is in the part (Part): its label and symbols are document 01's names, no variable is free, and its formula is a clause or a goal as it stands.
 -- A book does exactly if each line does and there is one conjecture.
-use Prim.Native.Nat.{ℕ, zero, suc}
+use Prim.Native.Nat.{suc}
 use mathlib.Core.Path.{_≡_, refl, sym, _∙_, ap, ap₂, subst}
 use mathlib.Core.Bool.{Bool, true, false, false≢true}
 use mathlib.Core.List.{List, [], _∷_, List·Memᴰ, List·Memᴰ·head, List·Memᴰ·tail, List·Memᴰ·not-nil, List·Memᴰ·cases-cons}
@@ -20,8 +20,8 @@ use Rattle.calculus.specs.Formula as numbered
 use Rattle.fof_truth.specs.Formula.{Term, Terms, Formula, Role, Line}
 use Rattle.fof_truth.specs.Numbered.{Scope, numberOf, termIn, termsIn, formulaIn}
 use Rattle.fof_truth.specs.Sentence.{asAtom, asGoal, asClause, Sentence, inRole, sentenceOf}
-use Rattle.fof_truth.specs.Part.{TermBound, TermsBound, Bound, Closed, TermNamed, TermsNamed, Named, IsAtom, IsGoal, IsClause, Fits, InPart, conjectureThen, conjectures, BookInPart}
-use Rattle.fof_truth.specs.Book.{sentencesOf, rulesIn, goalsIn, onlyOne, Book, withGoal, bookIn}
+use Rattle.fof_truth.specs.Part.{TermBound, TermsBound, Bound, TermNamed, TermsNamed, Named, IsAtom, IsGoal, IsClause, Fits, InPart, conjectureThen, conjectures, BookInPart}
+use Rattle.fof_truth.specs.Book.{sentencesOf, rulesIn, goalsIn, onlyOne, withGoal, bookIn}
 use Rattle.fof_truth.proofs.SentenceLaws.{one-some, two-some, turned}
 
 -- there is an answer

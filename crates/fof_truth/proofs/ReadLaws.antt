@@ -4,26 +4,25 @@ use Prim.Native.Nat.{ℕ, suc, _+_, _≤_, _<_}
 use mathlib.Core.Path.{_≡_, refl, sym, _∙_, ap, subst}
 use mathlib.Core.Bool.{Bool, true, false}
 use mathlib.Core.List.{List, [], _∷_}
-use mathlib.Core.Option.{Option, none, some, Option·some-injective}
+use mathlib.Core.Option.{some, Option·some-injective}
 use native.Mathlib.Omega.{arith}
 use lib.ListN.{length}
-use Rattle.basics.specs.Choice.{_>>=_, provided, nope, bind-some, provided-some, choose}
+use Rattle.basics.specs.Choice.{_>>=_, nope, bind-some, provided-some, choose}
 use Rattle.basics.specs.Each.{Each}
 use Rattle.harrop.specs.Formula as plain
 use Rattle.harrop.specs.Formula.{Name, Goal, Clause}
 use Rattle.harrop.specs.Bindings.{sameName}
 use Rattle.harrop.specs.Place.{Plain}
-use Rattle.harrop.specs.Scoped.{TermWithin, TermsWithin, AtomWithin, GoalWithin, ClauseWithin, ClosedClause, ClosedGoal}
+use Rattle.harrop.specs.Scoped.{TermWithin, TermsWithin, AtomWithin, GoalWithin, ClauseWithin, ClosedClause}
 use Rattle.sexp.specs.Sexp.{nesting, nestings}
 use Rattle.sexp.specs.Words.{isName}
 use Rattle.packet.specs.declared.Kind.the-variants as K
 use Rattle.packet.specs.declared.File.the-variants as F
-use Rattle.packet.specs.Written.{rulesSexp, goalSexp, clauseSexp, termSexp, termSexps, atomSexp, each}
+use Rattle.packet.specs.Written.{goalSexp, clauseSexp, each}
 use Rattle.packet.specs.Read.{rulesOf, goalOf, candidatesOf}
 use Rattle.packet.specs.Spells.{NameWords, TermWords, TermsWords, AtomWords, GoalWords, ClauseWords}
 use Rattle.packet.specs.File as file
-use Rattle.packet.specs.File.{fileOf, Books, booksOf, mostLevels}
-use Rattle.packet.specs.Sound.{SoundFile, GoodRules}
+use Rattle.packet.specs.File.{fileOf, booksOf}
 use Rattle.packet.proofs.PacketLaws.{rules-only, goal-only}
 use Rattle.packet.proofs.FairLaws.{rules-closed, goal-closed}
 use Rattle.calculus.specs.Formula as numbered

@@ -1,15 +1,14 @@
 -- A formula is read as a goal or a clause exactly if it is that goal's or that clause's own formula (crate `calculus`, Translation): nothing is rewritten.
-use mathlib.Core.Path.{_≡_, refl, sym, _∙_, ap, ap₂, subst}
+use mathlib.Core.Path.{_≡_, refl, sym, _∙_, ap, ap₂}
 use mathlib.Core.Bool.{true}
 use mathlib.Core.List.{[]}
-use mathlib.Core.Option.{Option, none, some, Option·some-injective}
-use Rattle.basics.specs.Choice.{_>>=_, provided, nope, bind-some, provided-some}
+use mathlib.Core.Option.{Option, some, Option·some-injective}
+use Rattle.basics.specs.Choice.{_>>=_, nope, bind-some, provided-some}
 use Rattle.harrop.specs.Formula.{Atom, Goal, Clause}
 use Rattle.harrop.specs.Place.{Plain}
 use Rattle.sexp.specs.Words.{isName}
 use Rattle.calculus.specs.Formula.{Formula}
 use Rattle.calculus.specs.Translation.{goalFormula, clauseFormula}
-use Rattle.fof_truth.specs.Formula as named
 use Rattle.fof_truth.specs.Formula.{Role, Line}
 use Rattle.fof_truth.specs.Numbered.{formulaIn}
 use Rattle.fof_truth.specs.Sentence.{asAtom, asGoal, asClause, Sentence, sentenceFormula, inRole, sentenceOf}

@@ -1,12 +1,12 @@
 -- What is written is true in the same structures as the TPTP formula (document 02, One): over all connectives, every logic and every structure, whatever the variables and the parameters
 -- stand for, and for both kinds of line.
 use Prim.Native.Nat.{ℕ, suc}
-use mathlib.Core.Path.{_≡_, refl, sym, _∙_, ap, ap₂, subst, fun-ext}
+use mathlib.Core.Path.{_≡_, sym, _∙_, ap, ap₂, subst, fun-ext}
 use mathlib.Core.Bool.{Bool, true, false}
 use mathlib.Core.List.{List, [], _∷_}
 use mathlib.Core.Logic.{_↔_, _⊎_, inl, inr}
-use mathlib.Core.Option.{Option, none, some, Option·some-injective}
-use Rattle.basics.specs.Choice.{choose, _>>=_, nope, bind-some, provided-some}
+use mathlib.Core.Option.{some, Option·some-injective}
+use Rattle.basics.specs.Choice.{choose, _>>=_, nope, provided-some}
 use Rattle.basics.specs.Each.{Each}
 use Rattle.harrop.specs.Formula as plain
 use Rattle.harrop.specs.Formula.{Name}
@@ -15,7 +15,7 @@ use Rattle.harrop.specs.Place.{Plain}
 use Rattle.sexp.specs.Words.{isName}
 use Rattle.calculus.specs.Formula as numbered
 use Rattle.fof_truth.specs.Formula.{Term, Terms, Formula, Line, grouped}
-use Rattle.fof_truth.specs.Truth.{Logic, evident, classical, Structure, setting, before, valueOf, valuesOf, plainValue, plainValues, plainAtom, truth, plainTruth}
+use Rattle.fof_truth.specs.Truth.{Logic, evident, classical, Structure, setting, before, valueOf, valuesOf, plainValue, plainValues, truth, plainTruth}
 use Rattle.fof_truth.specs.Numbered.{Scope, numberOf, termIn, termsIn, formulaIn}
 use Rattle.fof_truth.specs.Sentence.{Sentence, sentenceFormula, sentenceOf}
 use Rattle.fof_truth.proofs.SentenceLaws.{one-some, two-some, sentence-is, turned}

@@ -1,7 +1,7 @@
 -- What a whole book comes to (document 02, One): the axioms become rules in file order, the one conjecture the goal, both to be written as canonical files; or a refusal, in the order 13, 6, 3, 10.
 -- The two before these, 1 and 12, are given on the text, before there are lines. All are of file 1, with place 0. `a` and `b` are the lengths of the two buffers.
 use Prim.Native.Nat.{ℕ, min}
-use mathlib.Core.Bool.{Bool, true, false, _||_}
+use mathlib.Core.Bool.{Bool, _||_}
 use mathlib.Core.List.{List, [], _∷_}
 use mathlib.Core.Option.{Option, none, some}
 use lib.Dec.{ltb}

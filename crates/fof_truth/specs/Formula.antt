@@ -1,7 +1,6 @@
 -- The formulas of the part of TPTP that is read, with named variables (document 02, One): `$true`, atoms, `&`, `|`, `=>`, `!` and `?`; and the lines that hold them.
 -- A chain of one connective is grouped to the left; a list of variables is nested quantifiers, the first outermost. A word is any octets here: which are document 01's names is asked in Part.
 -- Left out: everything else that the grammar of `fof` lines allows. A line with any of it is refusal 13 before there is a formula.
-use Prim.Native.Nat.{ℕ}
 use mathlib.Core.List.{List, [], _∷_}
 use Rattle.harrop.specs.Formula.{Name}
 

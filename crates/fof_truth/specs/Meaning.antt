@@ -1,11 +1,9 @@
 -- What each outcome of a book means (document 02, One), without the tests: each line supposes that those before it do not apply, in the order 13, 6, 3, 10.
-use Prim.Native.Nat.{ℕ, _≤_, _<_, min}
+use Prim.Native.Nat.{ℕ, _≤_}
 use mathlib.Core.Path.{_≡_}
-use mathlib.Core.List.{List, [], _∷_}
-use mathlib.Core.Logic.{_⊎_}
-use mathlib.Core.Option.{Option, none, some}
+use mathlib.Core.List.{List}
+use mathlib.Core.Option.{some}
 use lib.ListN.{length}
-use Rattle.harrop.specs.Formula.{Goal, Clause}
 use Rattle.sexp.specs.Sexp.{nesting}
 use Rattle.packet.specs.Written.{rulesSexp, goalSexp}
 use Rattle.packet.specs.File.{mostBytes, mostLevels, mostMembers}

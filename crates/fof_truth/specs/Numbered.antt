@@ -1,8 +1,7 @@
 -- Variable names go (document 02, One): a formula with named variables becomes a formula of crate `calculus`, in which variable i is that of the quantifier i places outward.
 -- The nearest quantifier of a name binds it; a quantifier stays even if nothing uses its variable. There is no such formula where a variable is free or where a function or predicate symbol is
 -- none of document 01's names. Nothing is rewritten and nothing is simplified.
-use Prim.Native.Nat.{ℕ, zero, suc}
-use mathlib.Core.Bool.{Bool, true, false}
+use Prim.Native.Nat.{ℕ, suc}
 use mathlib.Core.List.{List, [], _∷_}
 use mathlib.Core.Option.{Option, none, some}
 use Rattle.basics.specs.Choice.{choose, _>>=_, provided}

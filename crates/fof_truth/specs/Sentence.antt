@@ -1,6 +1,6 @@
 -- What a line becomes (document 02, One): an axiom a rule, a conjecture a goal, where its formula is a clause or a goal of document 01 as it stands, and its label one of document 01's names.
 -- Else there is nothing, and the book is refusal 13.
-use mathlib.Core.List.{List, [], _∷_}
+use mathlib.Core.List.{[]}
 use mathlib.Core.Option.{Option, none, some}
 use Rattle.basics.specs.Choice.{_>>=_, provided}
 use Rattle.harrop.specs.Formula.{Atom, Goal, Clause}

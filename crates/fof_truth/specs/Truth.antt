@@ -1,9 +1,8 @@
 -- Truth in a structure: a domain, a meaning for each function and predicate symbol, and what the variables stand for (document 02, One: "true in the same structures").
--- A symbol is a name with its number of arguments: a meaning takes the list of the arguments, so the same name has another meaning with another number of them.
+-- A symbol is a name with its number of arguments: a meaning takes the list of the arguments, so the same name may mean something else with another number of them.
 -- What "or" and "there is" mean is not settled here once for all: truth is over a logic, which says what each connective makes of the truth of its parts. Two logics are named: the one in
 -- which a truth is its evidence, and the classical one. The truth of a formula with named variables and that of a formula of crate `calculus` are over the same logic and the same structure.
 use Prim.Native.Nat.{ℕ, zero, suc}
-use mathlib.Core.Bool.{Bool, true, false}
 use mathlib.Core.List.{List, [], _∷_}
 use mathlib.Core.Logic.{_⊎_}
 use Rattle.basics.specs.Choice.{choose}
