@@ -1,0 +1,5 @@
+pub mod Sign
+pub mod Spelled
+pub mod Mark
+pub mod Due
+pub mod Lines
