@@ -1,14 +1,5 @@
 pub mod Cases
-pub mod EndLaws
-pub mod EnterLaws
 pub mod FairLaws
-pub mod FollowLaws
 pub mod HalvesLaws
-pub mod HandLaws
-pub mod HeadLaws
-pub mod NodeLaws
-pub mod PathLaws
 pub mod RootLaws
-pub mod UseLaws
 pub mod VerdictLaws
-pub mod WalkLaws

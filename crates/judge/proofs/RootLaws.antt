@@ -18,10 +18,10 @@ use Rattle.room.specs.declared.Where.{Where}
 use Rattle.room.specs.Start.{start, Tabled}
 use Rattle.room.proofs.StartLaws.{root-means}
 use Rattle.room.proofs.EnoughLaws.{enough-at-start}
-use Rattle.judge.specs.declared.node.Outcome.{Outcome}
-use Rattle.judge.specs.declared.node.Outcome.the-variants as O
+use Rattle.uses.specs.declared.Outcome.{Outcome}
+use Rattle.uses.specs.declared.Outcome.the-variants as O
 use Rattle.judge.specs.declared.Verdict.the-variants as Ver
-use Rattle.judge.specs.Walk.{Ready, Judging, filesOf, outcome}
+use Rattle.uses.specs.Walk.{Ready, Judging, filesOf, outcome}
 use Rattle.judge.specs.Verdict.{judgementOf, judgedAs}
 use Rattle.judge.specs.Halves.{Stripping}
 

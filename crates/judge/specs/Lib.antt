@@ -1,6 +1,3 @@
 pub mod Cases
 pub mod Halves
-pub mod Heads
-pub mod Use
 pub mod Verdict
-pub mod Walk

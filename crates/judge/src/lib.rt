@@ -1,8 +1,5 @@
 // The checker: is this strip a proof of this goal from these rules, with these candidates (document 01, "When a strip fits", "What comes back").
-mod enter;
-mod node;
 mod request;
-mod uses;
 
 use packet::File;
 use packet::Reason;

@@ -1,8 +1,6 @@
 // A packet judged in two halves: rules and terms read and their tables filled; then one goal and strip, with the tables left as they were. The first refusal is that
 // of files 1, 2, 3, 4 in turn, whichever half reads them (document 01, "What comes back").
 use crate::Verdict;
-use crate::node::Outcome;
-use crate::node::node;
 use packet::File;
 use packet::Judged;
 use packet::Kind;
@@ -11,6 +9,8 @@ use packet::Reason;
 use packet::judge_file;
 use room::fill_tables;
 use room::first_place;
+use uses::Outcome;
+use walk::node;
 ghost use mathlib.Core.Path.{_≡_};
 ghost use Prim.Native.Nat.{_≤_};
 ghost use lib.ListN.{length};

@@ -1,0 +1,3 @@
+pub mod Heads
+pub mod Walk
+pub mod Use
