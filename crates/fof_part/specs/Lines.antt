@@ -8,9 +8,11 @@ use Rattle.basics.specs.Text.{octets}
 use Rattle.harrop.specs.Formula.{Name}
 use Rattle.harrop.specs.Bindings.{sameName}
 use Rattle.sexp.specs.Words.{isName}
+use Rattle.packet.specs.Written.{goalSexp, clauseSexp}
 use Rattle.fof_truth.specs.Formula.{Role}
+use Rattle.fof_truth.specs.Sentence.{Sentence}
 use Rattle.fof_part.specs.Sign.{Sign, opensCode, closesCode, commaCode, dotCode}
-use Rattle.fof_part.specs.Mark.{Mark}
+use Rattle.fof_part.specs.Mark.{Mark, marksOf}
 use Rattle.fof_part.specs.Due.{Sort, taking, formulaAt}
 
 -- a lower-case word, and what is left
@@ -75,3 +77,12 @@ linesFrom (suc f) (s ∷ ss) = lineAt (s ∷ ss) >>= λ l. linesFrom f (l .rest)
 
 unfoldable pub linesAt : List Sign → Option (List (Role × List Mark))
 linesAt ss = linesFrom (length ss) ss
+
+-- the same of what a line becomes by crate fof_truth: a rule of an axiom, a goal of a conjecture
+abbrev pub item : Sentence → Role × List Mark
+item (Sentence.rule d) = (Role.asAxiom, marksOf (clauseSexp d))
+item (Sentence.goal g) = (Role.asConjecture, marksOf (goalSexp g))
+
+abbrev pub items : List Sentence → List (Role × List Mark)
+items [] = []
+items (s ∷ ss) = item s ∷ items ss
