@@ -1,61 +1,24 @@
 // Reads rules.sx, goal.sx, terms.sx and strip.sx in the present directory, judges them, and prints one line (document 01, "What comes back").
 use judge::Verdict;
-use libc::STDOUT_FILENO;
-ghost use Rattle.io.specs.Counts.{Counts};
-
-// Whether a file is there.
-enum Opened {
-    Missing,
-    There(i32),
-}
-
-fn open_file(path: &[u8]) -> Opened {
-    let fd = os::open_read(path);
-    if fd < 0 {
-        return Opened::Missing;
-    }
-    Opened::There(fd)
-}
-
-// Reads a file, as far as the buffer goes: one byte more than a file may have tells that it is too long. A missing file counts as empty; one that cannot be read
-// counts as far as it was read.
-fn load(path: &[u8], buf: &mut [u8]) -> usize
-    ensures { λ r. ⌜ Counts r (now (buf .exit)) ⌝ }
-{
-    match open_file(path) {
-        Opened::Missing => 0,
-        Opened::There(fd) => {
-            let n = io::read_full(fd, buf);
-            libc::close(fd);
-            n
-        }
-    }
-}
-
-fn number(n: u64) {
-    io::write_all(STDOUT_FILENO, b" ");
-    io::print_decimal(STDOUT_FILENO, n);
-}
+use programs::load;
+use programs::say;
+use programs::say_number;
+use programs::say_refused;
 
 fn show(v: Verdict) {
     match v {
         Verdict::Accepted { height, nodes } => {
-            io::write_all(STDOUT_FILENO, b"accepted");
-            number(height as u64);
-            number(nodes as u64);
+            say(b"accepted");
+            say_number(height as u64);
+            say_number(nodes as u64);
         }
         Verdict::Refused {
             reason,
             file,
             place,
-        } => {
-            io::write_all(STDOUT_FILENO, b"refused");
-            number(packet::reason_number(reason) as u64);
-            number(packet::file_number(file) as u64);
-            number(place as u64);
-        }
+        } => say_refused(reason, file, place),
     }
-    io::write_all(STDOUT_FILENO, b"\n");
+    say(b"\n");
 }
 
 fn main() {
