@@ -1,3 +1,4 @@
+pub mod InsideLaws
 pub mod MeaningLaws
 pub mod PaperLaws
 pub mod WrittenLaws
