@@ -1,9 +1,12 @@
 // What the programs share: a file is read, a word of digits is a number, a line is printed.
+mod cases;
 mod word;
 
 use libc::STDOUT_FILENO;
 use packet::File;
 use packet::Reason;
+pub use cases::Part;
+pub use cases::string;
 pub use word::number;
 ghost use Rattle.io.specs.Counts.{Counts};
 
