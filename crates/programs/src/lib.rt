@@ -2,11 +2,11 @@
 mod cases;
 mod word;
 
+pub use cases::Part;
+pub use cases::string;
 use libc::STDOUT_FILENO;
 use packet::File;
 use packet::Reason;
-pub use cases::Part;
-pub use cases::string;
 pub use word::number;
 ghost use Rattle.io.specs.Counts.{Counts};
 
