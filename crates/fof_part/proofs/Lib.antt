@@ -1,1 +1,3 @@
 pub mod OntoLaws
+pub mod RunLaws
+pub mod CostLaws
