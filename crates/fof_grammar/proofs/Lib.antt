@@ -1,3 +1,10 @@
 pub mod Once
 pub mod Right
 pub mod Same
+pub mod Soundly
+pub mod Examples
+pub mod Entries
+pub mod Tables
+pub mod StackLaws
+pub mod AheadLaws
+pub mod Running

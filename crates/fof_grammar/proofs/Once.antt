@@ -1,28 +1,21 @@
 -- Tokens and names with the same number are the same.
-use Prim.Native.Nat.{ℕ}
+use Prim.Native.Nat.{ℕ, _<_}
 use mathlib.Core.Path.{_≡_, refl, sym, _∙_, ap}
-use mathlib.Core.List.{List, [], _∷_}
-use lib.ListN.{getD}
+use mathlib.Core.Bool.{Bool, true}
+use mathlib.Core.Option.{Option, none, some}
+use native.Mathlib.Omega.{arith}
+use lib.Dec.{ltb}
+use borrow.Author.Tests.{ltb-true, ne-eqb}
+use Rattle.basics.specs.Choice.{choose}
 use Rattle.fof_grammar.specs.Terminal.{Terminal, 'fof', other-word, single-q, upper-word, distinct, '$fof', '$cnf', '$fot', other-dollar, ddollar, integer, rational, real, lparen, rparen, '[', ']', lbrace, rbrace, comma, dot, ':', '-', '!', '?', '~', '&', '|', '=', '!=', '=>', '<=', '<=>', '<~>', '~|', '~&', '-->'}
 use Rattle.fof_grammar.specs.Terminal.{code}
 use Rattle.fof_grammar.specs.Name.{Name, aid, file, line, name, role, annotations, second-part, formula, logic, and-more, or-more, nonassoc, unit, quantifier, variable, variables, sequent, tuple, logics, logic-more, term, plain-term, defined-term, system-term, arguments, terms, number, general-term, general-data, general-arguments, general-terms, general-list, general-members, cnf, literals, literal, atomic, lower-word, dollar}
 use Rattle.fof_grammar.specs.Name.{Aid, role-end, logic-end, equation, atom-end, general-end, denied, equal-end}
 use Rattle.fof_grammar.specs.Name.{ordinal}
-
-abbrev pub terminals : List Terminal
-terminals = 'fof' ∷ other-word ∷ single-q ∷ upper-word ∷ distinct ∷ '$fof' ∷ '$cnf' ∷ '$fot' ∷ other-dollar ∷ ddollar ∷ integer ∷ rational ∷ real ∷ lparen ∷ rparen ∷ '[' ∷ ']' ∷ lbrace ∷ rbrace ∷ comma ∷ dot ∷ ':' ∷ '-' ∷ '!' ∷ '?' ∷ '~' ∷ '&' ∷ '|' ∷ '=' ∷ '!=' ∷ '=>' ∷ '<=' ∷ '<=>' ∷ '<~>' ∷ '~|' ∷ '~&' ∷ '-->' ∷ []
-
-abbrev pub names : List Name
-names = file ∷ line ∷ name ∷ role ∷ annotations ∷ second-part ∷ formula ∷ logic ∷ and-more ∷ or-more ∷ nonassoc ∷ unit ∷ quantifier ∷ variable ∷ variables ∷ sequent ∷ tuple ∷ logics ∷ logic-more ∷ term ∷ plain-term ∷ defined-term ∷ system-term ∷ arguments ∷ terms ∷ number ∷ general-term ∷ general-data ∷ general-arguments ∷ general-terms ∷ general-list ∷ general-members ∷ cnf ∷ literals ∷ literal ∷ atomic ∷ lower-word ∷ dollar ∷ aid role-end ∷ aid logic-end ∷ aid equation ∷ aid atom-end ∷ aid general-end ∷ aid denied ∷ aid equal-end ∷ []
-
--- back from the number
-abbrev pub terminalAt : ℕ → Terminal
-terminalAt i = getD terminals i 'fof'
-
-abbrev pub nameAt : ℕ → Name
-nameAt i = getD names i file
+use Rattle.fof_grammar.specs.Coded.{terminalAt, nameAt, tokenAt}
 
 pub code-back : (a : Terminal) → terminalAt (code a) ≡ a
+unfolding terminalAt
 code-back 'fof' = refl
 code-back other-word = refl
 code-back single-q = refl
@@ -62,6 +55,7 @@ code-back '~&' = refl
 code-back '-->' = refl
 
 pub ordinal-back : (m : Name) → nameAt (ordinal m) ≡ m
+unfolding nameAt
 ordinal-back file = refl
 ordinal-back line = refl
 ordinal-back name = refl
@@ -107,6 +101,105 @@ ordinal-back (aid atom-end) = refl
 ordinal-back (aid general-end) = refl
 ordinal-back (aid denied) = refl
 ordinal-back (aid equal-end) = refl
+
+-- a token has a number below 37, a name one below 45
+below : (a : Terminal) → ltb (code a) 37 ≡ true
+below 'fof' = refl
+below other-word = refl
+below single-q = refl
+below upper-word = refl
+below distinct = refl
+below '$fof' = refl
+below '$cnf' = refl
+below '$fot' = refl
+below other-dollar = refl
+below ddollar = refl
+below integer = refl
+below rational = refl
+below real = refl
+below lparen = refl
+below rparen = refl
+below '[' = refl
+below ']' = refl
+below lbrace = refl
+below rbrace = refl
+below comma = refl
+below dot = refl
+below ':' = refl
+below '-' = refl
+below '!' = refl
+below '?' = refl
+below '~' = refl
+below '&' = refl
+below '|' = refl
+below '=' = refl
+below '!=' = refl
+below '=>' = refl
+below '<=' = refl
+below '<=>' = refl
+below '<~>' = refl
+below '~|' = refl
+below '~&' = refl
+below '-->' = refl
+
+named-below : (m : Name) → ltb (ordinal m) 45 ≡ true
+named-below file = refl
+named-below line = refl
+named-below name = refl
+named-below role = refl
+named-below annotations = refl
+named-below second-part = refl
+named-below formula = refl
+named-below logic = refl
+named-below and-more = refl
+named-below or-more = refl
+named-below nonassoc = refl
+named-below unit = refl
+named-below quantifier = refl
+named-below variable = refl
+named-below variables = refl
+named-below sequent = refl
+named-below tuple = refl
+named-below logics = refl
+named-below logic-more = refl
+named-below term = refl
+named-below plain-term = refl
+named-below defined-term = refl
+named-below system-term = refl
+named-below arguments = refl
+named-below terms = refl
+named-below number = refl
+named-below general-term = refl
+named-below general-data = refl
+named-below general-arguments = refl
+named-below general-terms = refl
+named-below general-list = refl
+named-below general-members = refl
+named-below cnf = refl
+named-below literals = refl
+named-below literal = refl
+named-below atomic = refl
+named-below lower-word = refl
+named-below dollar = refl
+named-below (aid role-end) = refl
+named-below (aid logic-end) = refl
+named-below (aid equation) = refl
+named-below (aid atom-end) = refl
+named-below (aid general-end) = refl
+named-below (aid denied) = refl
+named-below (aid equal-end) = refl
+
+pub code-below : (a : Terminal) → code a < 37
+code-below a = ltb-true (code a) 37 (below a)
+
+pub ordinal-below : (m : Name) → ordinal m < 45
+ordinal-below m = ltb-true (ordinal m) 45 (named-below m)
+
+pub token-back : (a : Terminal) → tokenAt (code a) ≡ some a
+unfolding tokenAt
+token-back a =
+    let l = code-below a in
+    ap (λ (b : Bool). choose b none (some (terminalAt (code a)))) (ne-eqb (code a) 37 (λ e. omega (arith, e))) ∙ ap some (code-back a)
 
 pub code-once : (a b : Terminal) → code a ≡ code b → a ≡ b
 code-once a b e = sym (code-back a) ∙ ap terminalAt e ∙ code-back b

@@ -3,6 +3,7 @@ use Prim.Native.Nat.{ℕ}
 use mathlib.Core.Path.{_≡_, refl}
 use mathlib.Core.Bool.{Bool, true, false}
 use mathlib.Core.List.{List}
+use Rattle.basics.specs.Tells.{Tells, tells-as}
 use Rattle.grammar.specs.Derives.{Symbol, Derives}
 use Rattle.grammar.specs.Recast.{allOf, covers}
 use Rattle.grammar.proofs.Recast.{recast}
@@ -196,3 +197,6 @@ as-decided t = recast code ordinal code-once ordinal-once choices replaced 16 pr
 
 pub as-published : {ss : List (Symbol Terminal Name)} {w : List Terminal} → Derives choices ss w → Derives productions ss w
 as-published t = recast code ordinal code-once ordinal-once productions added 16 choices there t
+
+pub tells-published : (r : Bool) (ss : List (Symbol Terminal Name)) (w : List Terminal) → Tells r (Derives choices ss w) → Tells r (Derives productions ss w)
+tells-published r ss w h = tells-as r (λ t. as-published t) (λ t. as-decided t) h

@@ -4,12 +4,14 @@ use mathlib.Core.Bool.{Bool, true, false}
 use mathlib.Core.List.{List, [], _∷_}
 use mathlib.Core.Option.{Option, none, some}
 use Prim.Native.Nat.{ℕ}
+use lib.Dec.{eqb}
 use Rattle.grammar.specs.Derives.{Symbol, the, any}
 use Rattle.fof_grammar.specs.Terminal.{Terminal, 'fof', other-word, single-q, upper-word, distinct, '$fof', '$cnf', '$fot', other-dollar, ddollar, integer, rational, real, lparen, rparen, '[', ']', lbrace, rbrace, comma, dot, ':', '-', '!', '?', '~', '&', '|', '=', '!=', '=>', '<=', '<=>', '<~>', '~|', '~&', '-->'}
 use Rattle.fof_grammar.specs.Name.{Name, aid, file, line, name, role, annotations, second-part, formula, logic, and-more, or-more, nonassoc, unit, quantifier, variable, variables, sequent, tuple, logics, logic-more, term, plain-term, defined-term, system-term, arguments, terms, number, general-term, general-data, general-arguments, general-terms, general-list, general-members, cnf, literals, literal, atomic, lower-word, dollar}
 use Rattle.fof_grammar.specs.Name.{Aid, role-end, logic-end, equation, atom-end, general-end, denied, equal-end}
 use Rattle.grammar.specs.Machine.{Grammar}
 use Rattle.fof_grammar.specs.Terminal.{code}
+use Rattle.fof_grammar.specs.Name.{ordinal}
 use Rattle.fof_grammar.specs.Aids.{aids}
 use Rattle.fof_grammar.specs.Grammar.{productions}
 
@@ -84,84 +86,10 @@ choices (aid a) = aids a
 
 -- the token that a formula looks past: a formula and a sequent may both begin with it
 abbrev pub past : Terminal → Bool
-past 'fof' = false
-past other-word = false
-past single-q = false
-past upper-word = false
-past distinct = false
-past '$fof' = false
-past '$cnf' = false
-past '$fot' = false
-past other-dollar = false
-past ddollar = false
-past integer = false
-past rational = false
-past real = false
-past lparen = true
-past rparen = false
-past '[' = false
-past ']' = false
-past lbrace = false
-past rbrace = false
-past comma = false
-past dot = false
-past ':' = false
-past '-' = false
-past '!' = false
-past '?' = false
-past '~' = false
-past '&' = false
-past '|' = false
-past '=' = false
-past '!=' = false
-past '=>' = false
-past '<=' = false
-past '<=>' = false
-past '<~>' = false
-past '~|' = false
-past '~&' = false
-past '-->' = false
+past a = eqb (code a) (code lparen)
 
 abbrev pub looks : Name → Bool
-looks file = false
-looks line = false
-looks name = false
-looks role = false
-looks annotations = false
-looks second-part = false
-looks formula = true
-looks logic = false
-looks and-more = false
-looks or-more = false
-looks nonassoc = false
-looks unit = false
-looks quantifier = false
-looks variable = false
-looks variables = false
-looks sequent = false
-looks tuple = false
-looks logics = false
-looks logic-more = false
-looks term = false
-looks plain-term = false
-looks defined-term = false
-looks system-term = false
-looks arguments = false
-looks terms = false
-looks number = false
-looks general-term = false
-looks general-data = false
-looks general-arguments = false
-looks general-terms = false
-looks general-list = false
-looks general-members = false
-looks cnf = false
-looks literals = false
-looks literal = false
-looks atomic = false
-looks lower-word = false
-looks dollar = false
-looks (aid a) = false
+looks m = eqb (ordinal m) (ordinal formula)
 
 -- the tokens that a name may begin with
 abbrev pub begins : Name → List (Option Terminal)

@@ -3,3 +3,5 @@ pub mod Name
 pub mod Aids
 pub mod Grammar
 pub mod Decided
+pub mod Sound
+pub mod Coded

@@ -1,1 +1,3 @@
 // TPTP's grammar of `fof` lines (document 02, request One), and whether a text is such lines.
+mod machine;
+mod table;

@@ -40,7 +40,7 @@ module _ {A : Type 0} where
   has-gather f (z ∷ zs) x y (inr h) g = has-right (f z) (gather f zs) y (has-gather f zs x y h g)
 
 module _ {T N : Type 0} (code : T → ℕ) (number : N → ℕ) (once : (a b : T) → code a ≡ code b → a ≡ b) (called-once : (m n : N) → number m ≡ number n → m ≡ n) where
-  same-symbol : (alts : N → List (List (Symbol T N))) (x y : Symbol T N) → sameSymbol code number alts x y ≡ true → x ≡ y
+  pub same-symbol : (alts : N → List (List (Symbol T N))) (x y : Symbol T N) → sameSymbol code number alts x y ≡ true → x ≡ y
   same-symbol alts (the a) (the b) e = ap the (once a b (eqb-true (code a) (code b) e))
   same-symbol alts (the a) (any n) e = absurd (false≢true e)
   same-symbol alts (any m) (the b) e = absurd (false≢true e)

@@ -1,0 +1,46 @@
+-- `sound` says yes exactly of the texts that are `fof` lines by the grammar: so refusal 12 is given exactly if the whole text is no list of fof lines (document 02, request One).
+use Prim.Native.Nat.{ℕ}
+use mathlib.Core.Path.{_≡_, refl, sym, _∙_, ap, subst}
+use mathlib.Core.Bool.{Bool, true, false}
+use mathlib.Core.Logic.{_↔_}
+use mathlib.Core.List.{List, [], _∷_, map}
+use mathlib.Core.Option.{Option, none, some, Option·some-injective}
+use Rattle.basics.specs.Choice.{nope}
+use Rattle.basics.specs.Tells.{Tells, tells-as, told-no}
+use Rattle.fof_tokens.specs.Token.{Token}
+use Rattle.fof_tokens.specs.Cuts.{Cuts}
+use Rattle.fof_tokens.specs.Next.{tokens}
+use Rattle.fof_tokens.proofs.CutsLaws.{tokens-right, cut-once, no-tokens}
+use Rattle.grammar.specs.Derives.{any, Derives}
+use Rattle.grammar.specs.Machine.{accepts}
+use Rattle.grammar.proofs.Machine.{accepts-exactly}
+use Rattle.fof_grammar.specs.Name.{file}
+use Rattle.fof_grammar.specs.Grammar.{productions}
+use Rattle.fof_grammar.specs.Decided.{decided}
+use Rattle.fof_grammar.specs.Sound.{terminalOf, Sound, sound, soundTokens}
+use Rattle.fof_grammar.proofs.Once.{code-once}
+use Rattle.fof_grammar.proofs.Right.{rightly}
+use Rattle.fof_grammar.proofs.Same.{tells-published}
+
+abbrev Derived : List Token → Type 0
+Derived ts = Derives productions (any file ∷ []) (map terminalOf ts)
+
+pub sound-exactly : (text : List ℕ) → Tells (sound text) (Sound text)
+unfolding sound
+sound-exactly text = go (tokens text) refl
+  where
+    go : (o : Option (List Token)) → tokens text ≡ o → Tells (soundTokens o) (Sound text)
+    go none e = λ s. no-tokens text .0 e (s .cut) (s .cuts)
+    go (some ts) e =
+        tells-as (accepts decided file (map terminalOf ts)) (λ t. record { cut = ts; cuts = tokens-right text ts .0 e; derived = t })
+        (λ s. subst Derived (cut-once text (s .cut) ts (s .cuts) (tokens-right text ts .0 e)) (s .derived))
+        (tells-published (accepts decided file (map terminalOf ts)) (any file ∷ []) (map terminalOf ts)
+        (accepts-exactly decided code-once rightly file (map terminalOf ts) refl))
+
+-- 12 exactly if the whole text is no list of fof lines by the grammar
+pub refused-exactly : (text : List ℕ) → (sound text ≡ false) ↔ (Sound text → ⊥)
+refused-exactly text = (λ e. told-no e (sound-exactly text), λ h. go (sound text) (sound-exactly text) h)
+  where
+    go : (b : Bool) → Tells b (Sound text) → (Sound text → ⊥) → b ≡ false
+    go true s h = absurd (h s)
+    go false s h = refl
