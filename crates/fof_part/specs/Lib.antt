@@ -3,3 +3,4 @@ pub mod Spelled
 pub mod Mark
 pub mod Due
 pub mod Lines
+pub mod Files
