@@ -92,5 +92,5 @@ stated =
     ∷ []
 
 pub the-texts : map (λ (x : (List ℕ) × Option (List (Kind × List ℕ))). said (x .0)) stated ≡ map (λ (x : (List ℕ) × Option (List (Kind × List ℕ))). x .1) stated
-unfolding tokens tokensAt tokensFrom pieceAt scan soonest isSpace isSmall isCapital isAlnum isDigit isNonzero isSign isExponent isPlain isEscaped inLine
+unfolding tokens tokensAt tokensFrom pieceAt scan soonest isSpace isAlnum isSign isExponent isPlain isEscaped inLine
 the-texts = refl

@@ -4,4 +4,12 @@ pub mod SortLaws
 pub mod PieceLaws
 pub mod CutsLaws
 pub mod NextLaws
+pub mod ByteLaws
+pub mod ScanLaws
+pub mod SignLaws
+pub mod GapLaws
+pub mod NumberLaws
+pub mod WordLaws
+pub mod BeginLaws
+pub mod PieceAtLaws
 pub mod Examples

@@ -2,11 +2,11 @@
 use Prim.Native.Nat.{ℕ, zero, suc, _+_, _-_, _<_, _≤_}
 use mathlib.Core.Path.{_≡_, refl, sym, _∙_, ap, subst}
 use mathlib.Core.List.{List, [], _∷_}
-use mathlib.Core.Option.{Option, none, some}
+use mathlib.Core.Option.{Option, none, some, Option·some-injective}
 use native.Mathlib.Omega.{arith}
-use lib.ListN.{length, take, drop}
+use lib.ListN.{length, take, drop, length-drop, drop-of-length-le}
 use lib.Seq.{drop-drop, drop-nil}
-use Rattle.basics.specs.Choice.{_>>=_}
+use Rattle.basics.specs.Choice.{_>>=_, nope}
 use Rattle.fof_tokens.specs.declared.Kind.{Kind}
 use Rattle.fof_tokens.specs.declared.Lexed.{Lexed}
 use Rattle.fof_tokens.specs.declared.Lexed.the-variants as lexed
@@ -54,6 +54,36 @@ none-found at t f = go (pieceAt at t) (piece-told at t)
     go : (o : Option (Sort × ℕ)) → PieceTold at t o → o ≡ none
     go none h = refl
     go (some p) (n, e, b, l, h) = absurd (f n (l .within) (l .piece))
+
+-- in a whole text: a space or a comment is passed, and the rest is nearer the end
+pub lexed-gap : (t : List ℕ) (at e : ℕ) → at < length t → some (gap, e) ≡ pieceAt at (drop at t) → (at < e) × (lexedAt t at ≡ lexedAt t e)
+unfolding lexedAt
+lexed-gap t at e h q = go (pieceAt at (drop at t)) (piece-told at (drop at t)) q refl
+  where
+    go : (o : Option (Sort × ℕ)) → PieceTold at (drop at t) o → some (gap, e) ≡ o → o ≡ pieceAt at (drop at t) → (at < e) × (nextFrom 0 at (drop at t) ≡ nextFrom 0 e (drop e t))
+    go none f r w = nope (sym r)
+    go (some p) (n, z, b, l, i) r w =
+        let y : e ≡ at + n = ap (λ (x : Sort × ℕ). x .1) (Option·some-injective (gap, e) p r) ∙ z in (
+          omega arith,
+          next-gap at (drop at t) n b (l .within) (sym q ∙ ap (λ (x : ℕ). some (gap, x)) y)
+              ∙ ap (λ (x : List ℕ). nextFrom 0 (at + n) x) (drop-drop n at t)
+              ∙ ap (λ (x : ℕ). nextFrom 0 x (drop x t)) (sym y),
+        )
+
+in-rest : (t : List ℕ) (at : ℕ) → at < length t → 0 < length (drop at t)
+in-rest t at h = let z = length-drop at t in omega arith
+
+pub lexed-token : (t : List ℕ) (at : ℕ) (k : Kind) (e : ℕ) → at < length t → some (token k, e) ≡ pieceAt at (drop at t) → lexedAt t at ≡ lexed.Token k at e
+unfolding lexedAt
+lexed-token t at k e h q = next-token at (drop at t) k e (in-rest t at h) (sym q)
+
+pub lexed-bad : (t : List ℕ) (at : ℕ) → at < length t → none ≡ pieceAt at (drop at t) → lexedAt t at ≡ lexed.Bad
+unfolding lexedAt
+lexed-bad t at h q = next-bad at (drop at t) (in-rest t at h) (sym q)
+
+pub lexed-end : (t : List ℕ) (at : ℕ) → length t ≤ at → lexedAt t at ≡ lexed.End
+unfolding lexedAt nextFrom
+lexed-end t at h = ap (λ (x : List ℕ). nextFrom 0 at x) (drop-of-length-le t {i = at} h)
 
 -- what is next is computed
 pub next-only : {at : ℕ} {t : List ℕ} {r : Lexed} → Lexes at t r → r ≡ nextFrom 0 at t

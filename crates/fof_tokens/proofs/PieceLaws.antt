@@ -102,7 +102,7 @@ piece-filled h = ⊎-elim
 
 -- no other piece starts as a block comment does
 not-slash : (s : Sort) (w : List ℕ) → In table s (47 ∷ w) → ⊥
-unfolding isSpace isSmall isCapital isDigit isNonzero isSign
+unfolding isSpace isSign
 not-slash s w h = step-in 47 table s w h
 
 -- what the machine tells of the piece at an offset

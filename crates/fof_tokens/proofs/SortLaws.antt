@@ -101,29 +101,27 @@ sortOf (c ∷ w) = choose (isSmall c) (token Lower) (choose (isCapital c) (token
 
 -- classes of bytes apart from each other
 
-inside : (a b c : ℕ) → within a b c ≡ true → (a ≤ c) × (c ≤ b)
+pub inside : (a b c : ℕ) → within a b c ≡ true → (a ≤ c) × (c ≤ b)
 inside a b c h = let (x, y) = both-true (leb a c) (leb c b) h in (leb-true a c x, leb-true c b y)
 
-below : (a b c : ℕ) → c < a → within a b c ≡ false
+pub below : (a b c : ℕ) → c < a → within a b c ≡ false
 below a b c h = rw (lt-leb a c h) refl
 
-above : (a b c : ℕ) → b < c → within a b c ≡ false
+pub above : (a b c : ℕ) → b < c → within a b c ≡ false
 above a b c h = ap (λ (x : Bool). leb a c && x) (lt-leb c b h) ∙ and-false (leb a c)
 
 small-sort : (c : ℕ) (w : List ℕ) → isSmall c ≡ true → sortOf (c ∷ w) ≡ token Lower
 small-sort c w h = rw h refl
 
 capital-sort : (c : ℕ) (w : List ℕ) → isCapital c ≡ true → sortOf (c ∷ w) ≡ token Upper
-unfolding isSmall isCapital
 capital-sort c w h = let (x, y) = inside 65 90 c h in rw (below 97 122 c (omega arith)) (rw h refl)
 
 digit-sort : (c : ℕ) (w : List ℕ) → isDigit c ≡ true → sortOf (c ∷ w) ≡ token (numberKind (c ∷ w))
-unfolding isSmall isCapital isDigit
 digit-sort c w h =
     let (x, y) = inside 48 57 c h in rw (below 97 122 c (omega arith)) (rw (below 65 90 c (omega arith)) (rw h refl))
 
 space-sort : (c : ℕ) (w : List ℕ) → isSpace c ≡ true → sortOf (c ∷ w) ≡ gap
-unfolding isSpace isSmall isCapital isDigit
+unfolding isSpace
 space-sort c w h = ⊎-elim
     (λ k. let (x, y) = inside 9 13 c k in
     rw (below 97 122 c (omega arith)) (rw (below 65 90 c (omega arith)) (rw (below 48 57 c (omega arith)) (rw k refl))))
@@ -151,12 +149,10 @@ marked b s w h =
 abbrev Unsigned : Kind → List ℕ → Type 0
 Unsigned k v = ((d : ℕ) × (w : List ℕ) × (v ≡ d ∷ w) × (isDigit d ≡ true)) × (numberKind v ≡ k)
 
-nonzero-digit : (c : ℕ) → isNonzero c ≡ true → isDigit c ≡ true
-unfolding isNonzero isDigit
+pub nonzero-digit : (c : ℕ) → isNonzero c ≡ true → isDigit c ≡ true
 nonzero-digit c h = let (x, y) = inside 49 57 c h in rw (le-leb 48 c (omega arith)) (le-leb c 57 y)
 
 decimal-starts : (v : List ℕ) → v by decimal → (d : ℕ) × (w : List ℕ) × (v ≡ d ∷ w) × (isDigit d ≡ true)
-unfolding isDigit
 decimal-starts v (inl (c, e, h)) = (48, [], e ∙ ap (λ (x : ℕ). x ∷ []) (eqb-true c 48 h), refl)
 decimal-starts v (inr h) =
     let (c, w, e, q, k) = headed isNonzero (many (byte isDigit)) v h in (c, w, e, nonzero-digit c q)
@@ -168,7 +164,6 @@ longer-starts r s v f (u, x, e, h, k) =
     let (d, w, q, g) = f u h in (d, w ++ x, e ∙ ap (λ (y : List ℕ). y ++ x) q, g)
 
 integer-is : (v : List ℕ) → v by decimal → Unsigned Integer v
-unfolding isDigit isNonzero
 integer-is v h = (
   decimal-starts v h,
   rw (lacks-by 47 decimal v refl h) (rw (lacks-by 46 decimal v refl h) (rw (lacks-by 69 decimal v refl h) (rw (lacks-by 101 decimal v refl h) refl))),
@@ -197,7 +192,7 @@ point-or v (u, x, e, k, inr m) =
     (or-true (eqb c 69) (eqb c 101) g))
 
 real-is : (v : List ℕ) → v by real → Unsigned Real v
-unfolding isDigit isNonzero isSign isExponent
+unfolding isSign isExponent
 real-is v h = (
   longer-starts decimal (fraction ▸ optional exponent ∣ exponent) v decimal-starts h,
   rw (lacks-by 47 real v refl h) (rw (point-or v h) refl),
@@ -205,12 +200,11 @@ real-is v h = (
 
 -- after a minus
 minus-sort : (d : ℕ) (x : List ℕ) → isDigit d ≡ true → minusKind (d ∷ x) ≡ numberKind (d ∷ x)
-unfolding isDigit
 minus-sort d x g = let (a, b) = inside 48 57 d g in rw (ne-eqb d 45 (λ e. absurd (omega arith))) refl
 
 -- with its sign
 signed-sort : (k : Kind) (r : Rule) (w : List ℕ) → ((v : List ℕ) → v by r → Unsigned k v) → w by (optional sign ▸ r) → sortOf w ≡ token k
-unfolding isSign isSmall isCapital isDigit isSpace
+unfolding isSign isSpace
 signed-sort k r w f (u, v, e, inr q, h) =
     let ((d, x, p, g), n) = f v h in
     ap sortOf (e ∙ ap (λ (y : List ℕ). y ++ v) q ∙ p) ∙ digit-sort d x g ∙ ap (λ (y : List ℕ). token (numberKind y)) (sym p) ∙ ap token n
@@ -228,7 +222,7 @@ signed-sort k r w f (u, v, e, inl (c, q, g), h) =
 
 -- with what a word starts after a dollar
 dollar-sort : (v : List ℕ) → v by lowerWord → sortOf (36 ∷ v) ≡ token Dollar
-unfolding isSmall isCapital isDigit isSpace
+unfolding isSpace
 dollar-sort v h =
     let (c, x, e, g, k) = headed isSmall (many (byte isAlnum)) v h in
     let (a, b) = inside 97 122 c g in
@@ -236,7 +230,7 @@ dollar-sort v h =
 
 -- each kind of token, from its rule
 pub token-sort : (k : Kind) (w : List ℕ) → IsToken k w → sortOf w ≡ token k
-unfolding isSmall isCapital isDigit isSpace
+unfolding isSpace
 token-sort Lower w h =
     let (c, v, e, g, k) = headed isSmall (many (byte isAlnum)) w h in ap sortOf e ∙ small-sort c v g
 token-sort Upper w h =
@@ -283,7 +277,7 @@ block-starts w (u, v, e, h, k) =
 
 -- spaces and comments
 pub gap-sort : (w : List ℕ) → Gap w → sortOf w ≡ gap
-unfolding isSmall isCapital isDigit isSpace
+unfolding isSpace
 gap-sort w (inl (c, e, h)) = ap sortOf e ∙ space-sort c [] h
 gap-sort w (inr (inl h)) = let (v, e, k) = marked 37 (many (byte inLine)) w h in ap sortOf e
 gap-sort w (inr (inr h)) = let (v, e) = block-starts w (h .whole) in ap sortOf e

@@ -13,19 +13,19 @@ unfoldable pub isSpace : ℕ → Bool
 isSpace c = within 9 13 c || eqb c 32
 
 -- a to z
-unfoldable pub isSmall : ℕ → Bool
+abbrev pub isSmall : ℕ → Bool
 isSmall c = within 97 122 c
 
 -- A to Z
-unfoldable pub isCapital : ℕ → Bool
+abbrev pub isCapital : ℕ → Bool
 isCapital c = within 65 90 c
 
 -- 0 to 9
-unfoldable pub isDigit : ℕ → Bool
+abbrev pub isDigit : ℕ → Bool
 isDigit c = within 48 57 c
 
 -- 1 to 9
-unfoldable pub isNonzero : ℕ → Bool
+abbrev pub isNonzero : ℕ → Bool
 isNonzero c = within 49 57 c
 
 -- a letter, a digit or the underscore

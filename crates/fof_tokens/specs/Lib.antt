@@ -5,3 +5,6 @@ pub mod Cuts
 pub mod Lexes
 pub mod Machine
 pub mod Next
+pub mod Runs
+pub mod Found
+pub mod Begins

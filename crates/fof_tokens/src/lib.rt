@@ -1,4 +1,18 @@
-// The tokens of TPTP's `fof` lines (document 02, request One): their kinds, and what may be next in a text.
+// The tokens of TPTP's `fof` lines (document 02, request One): what is next in a text, from any offset on.
+// `bytes` tells the classes of bytes, `run` passes bytes of one class, `first` tells by its first byte what a piece may be; `gaps`, `words`, `numbers` and `signs` find its end,
+// `pieces` the longest piece at an offset, and `next` the next token.
+mod bytes;
+mod first;
+mod found;
+mod gaps;
+mod next;
+mod numbers;
+mod pieces;
+mod run;
+mod signs;
+mod words;
+
+pub use next::next_token;
 
 // The kinds of token. The signs are named after what they say in a formula.
 pub enum Kind {
