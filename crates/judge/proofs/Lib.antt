@@ -1,4 +1,3 @@
-pub mod Cases
 pub mod FairLaws
 pub mod HalvesLaws
 pub mod RootLaws

@@ -4,3 +4,5 @@ pub mod PaperLaws
 pub mod WrittenLaws
 pub mod SearchedLaws
 pub mod Cases
+pub mod PartsLaws
+pub mod AnswerLaws

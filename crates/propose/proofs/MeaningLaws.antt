@@ -26,11 +26,11 @@ use Rattle.propose.specs.Proposed.{mostHeight, Comes, firstStrip, unless
 use Rattle.propose.specs.Meaning.{start, offered, Searched, TheFirst, Provable, Told, noRoom, tooHigh, atFault, noProof, tooLong, wrote}
 
 -- a strip that is not too long, and one that is
-unless-fits : (size : ℕ) (S : Strip) → length (written S) ≤ min size mostBytes → unlessLong size S ≡ Comes.writes S
+pub unless-fits : (size : ℕ) (S : Strip) → length (written S) ≤ min size mostBytes → unlessLong size S ≡ Comes.writes S
 unfolding unlessLong
 unless-fits size S l = ap (λ (t : Bool). choose t (Comes.writes S) (Comes.refuses R.Buffer F.None)) (le-leb (length (written S)) (min size mostBytes) l)
 
-unless-long : (size : ℕ) (S : Strip) → min size mostBytes < length (written S) → unlessLong size S ≡ Comes.refuses R.Buffer F.None
+pub unless-long : (size : ℕ) (S : Strip) → min size mostBytes < length (written S) → unlessLong size S ≡ Comes.refuses R.Buffer F.None
 unfolding unlessLong
 unless-long size S l = ap (λ (t : Bool). choose t (Comes.writes S) (Comes.refuses R.Buffer F.None)) (lt-leb (length (written S)) (min size mostBytes) l)
 
@@ -50,7 +50,7 @@ module _ (h size room : ℕ) (rs gs ts : List ℕ) where
   Means x = Told h size room rs gs ts x
 
   -- the tests in turn
-  on-room : room < words → comesTo h size room rs gs ts ≡ Comes.refuses R.Room F.None
+  pub on-room : room < words → comesTo h size room rs gs ts ≡ Comes.refuses R.Room F.None
   unfolding comesTo
   on-room l =
       ap (λ (t : Bool). choose t (Comes.refuses R.Room F.None) (choose (ltb mostHeight h) (Comes.refuses R.Height F.None) (ofBooks h size (booksOf rs gs ts)))) (lt-ltb room words l)
@@ -60,13 +60,13 @@ module _ (h size room : ℕ) (rs gs ts : List ℕ) where
   once-roomy l =
       ap (λ (t : Bool). choose t (Comes.refuses R.Room F.None) (choose (ltb mostHeight h) (Comes.refuses R.Height F.None) (ofBooks h size (booksOf rs gs ts)))) (le-ltb room words l)
 
-  on-height : words ≤ room → mostHeight < h → comesTo h size room rs gs ts ≡ Comes.refuses R.Height F.None
+  pub on-height : words ≤ room → mostHeight < h → comesTo h size room rs gs ts ≡ Comes.refuses R.Height F.None
   on-height l m = once-roomy l ∙ ap (λ (t : Bool). choose t (Comes.refuses R.Height F.None) (ofBooks h size (booksOf rs gs ts))) (lt-ltb mostHeight h m)
 
   pub once-low : words ≤ room → h ≤ mostHeight → comesTo h size room rs gs ts ≡ ofBooks h size (booksOf rs gs ts)
   once-low l m = once-roomy l ∙ ap (λ (t : Bool). choose t (Comes.refuses R.Height F.None) (ofBooks h size (booksOf rs gs ts))) (le-ltb mostHeight h m)
 
-  on-refused : words ≤ room → h ≤ mostHeight → (r : Reason) (f : File) (at : ℕ) → booksOf rs gs ts ≡ Outcome.refused r f at → comesTo h size room rs gs ts ≡ Comes.refuses r f
+  pub on-refused : words ≤ room → h ≤ mostHeight → (r : Reason) (f : File) (at : ℕ) → booksOf rs gs ts ≡ Outcome.refused r f at → comesTo h size room rs gs ts ≡ Comes.refuses r f
   unfolding ofBooks
   on-refused l m r f at e = once-low l m ∙ ap (ofBooks h size) e
 

@@ -1,3 +1,4 @@
 pub mod Proposed
 pub mod Meaning
 pub mod Cases
+pub mod Parts
