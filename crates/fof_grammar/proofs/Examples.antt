@@ -7,7 +7,7 @@ use mathlib.Core.List.{List, [], _∷_, _++_}
 use Prim.Native.Nat.{ℕ}
 use lib.ListN.{length, replicate}
 use Rattle.basics.specs.Text.{octets}
-use Rattle.fof_tokens.specs.Bytes.{isSpace, isSmall, isCapital, isDigit, isNonzero, isAlnum, isSign, isExponent, isPlain, isEscaped, inLine}
+use Rattle.fof_tokens.specs.Bytes.{isSpace, isAlnum, isSign, isExponent, isPlain, isEscaped, inLine}
 use Rattle.fof_tokens.specs.Machine.{scan, soonest}
 use Rattle.fof_tokens.specs.Next.{pieceAt, tokensFrom, tokensAt, tokens}
 use Rattle.grammar.specs.Machine.{accepts}
@@ -80,11 +80,11 @@ other-texts =
     ∷ []
 
 pub texts-sound : wrong true octets sound-texts ≡ []
-unfolding sound accepts scan soonest tokens tokensAt tokensFrom pieceAt isSpace isSmall isCapital isDigit isNonzero isAlnum isSign isExponent isPlain isEscaped inLine
+unfolding sound accepts scan soonest tokens tokensAt tokensFrom pieceAt isSpace isAlnum isSign isExponent isPlain isEscaped inLine
 texts-sound = refl
 
 pub texts-refused : wrong false octets other-texts ≡ []
-unfolding sound accepts scan soonest tokens tokensAt tokensFrom pieceAt isSpace isSmall isCapital isDigit isNonzero isAlnum isSign isExponent isPlain isEscaped inLine
+unfolding sound accepts scan soonest tokens tokensAt tokensFrom pieceAt isSpace isAlnum isSign isExponent isPlain isEscaped inLine
 texts-refused = refl
 
 -- Formulas and terms: sound
@@ -188,11 +188,11 @@ other-formulas =
     ∷ []
 
 pub formulas-sound : wrong true formula sound-formulas ≡ []
-unfolding sound accepts scan soonest tokens tokensAt tokensFrom pieceAt isSpace isSmall isCapital isDigit isNonzero isAlnum isSign isExponent isPlain isEscaped inLine
+unfolding sound accepts scan soonest tokens tokensAt tokensFrom pieceAt isSpace isAlnum isSign isExponent isPlain isEscaped inLine
 formulas-sound = refl
 
 pub formulas-refused : wrong false formula other-formulas ≡ []
-unfolding sound accepts scan soonest tokens tokensAt tokensFrom pieceAt isSpace isSmall isCapital isDigit isNonzero isAlnum isSign isExponent isPlain isEscaped inLine
+unfolding sound accepts scan soonest tokens tokensAt tokensFrom pieceAt isSpace isAlnum isSign isExponent isPlain isEscaped inLine
 formulas-refused = refl
 
 -- Annotations: sound
@@ -248,9 +248,9 @@ other-annotations =
     ∷ []
 
 pub annotations-sound : wrong true annotation sound-annotations ≡ []
-unfolding sound accepts scan soonest tokens tokensAt tokensFrom pieceAt isSpace isSmall isCapital isDigit isNonzero isAlnum isSign isExponent isPlain isEscaped inLine
+unfolding sound accepts scan soonest tokens tokensAt tokensFrom pieceAt isSpace isAlnum isSign isExponent isPlain isEscaped inLine
 annotations-sound = refl
 
 pub annotations-refused : wrong false annotation other-annotations ≡ []
-unfolding sound accepts scan soonest tokens tokensAt tokensFrom pieceAt isSpace isSmall isCapital isDigit isNonzero isAlnum isSign isExponent isPlain isEscaped inLine
+unfolding sound accepts scan soonest tokens tokensAt tokensFrom pieceAt isSpace isAlnum isSign isExponent isPlain isEscaped inLine
 annotations-refused = refl
