@@ -1,69 +1,28 @@
-// Judges every packet of two files of judge cases (second/README.md: four files, each a string) and prints one line for each. The cases and the lines that are
+// Judges every packet of four files of judge cases (second/README.md: four files, each a string) and prints one line for each. The cases and the lines that are
 // expected come from the second program alone.
 use judge::Verdict;
-use libc::STDOUT_FILENO;
-use sexp::Octets;
+use programs::load;
+use programs::say;
+use programs::say_number;
+use programs::say_refused;
+use programs::string;
 ghost use Prim.Native.Nat.{_<_, _≤_};
 ghost use lib.ListN.{length};
-ghost use Rattle.io.specs.Counts.{Counts};
-
-// A part of the case file.
-struct Part {
-    from: usize,
-    to: usize,
-}
-
-// Reads a file whole, as far as the buffer goes; a missing one counts as empty.
-fn load(path: &[u8], buf: &mut [u8]) -> usize
-    ensures { λ r. ⌜ Counts r (now (buf .exit)) ⌝ }
-{
-    let fd = os::open_read(path);
-    if fd < 0 {
-        return 0;
-    }
-    let n = io::read_full(fd, buf);
-    libc::close(fd);
-    n
-}
-
-// The string at an offset; where none stands, nothing up to the end.
-fn string(s: &[u8], at: usize) -> Part
-    requires { ⌜ at ≤ length (now s) ⌝ }
-    ensures { λ r. ⌜ (at ≤ r .to) × ((r .from ≤ r .to) × (r .to ≤ length (now (s .entry)))) ⌝ }
-{
-    match sexp::plain(s, at) {
-        Octets::Nothing => Part {
-            from: s.len(),
-            to: s.len(),
-        },
-        Octets::Span(from, n) => Part { from, to: from + n },
-    }
-}
-
-fn number(n: u64) {
-    io::write_all(STDOUT_FILENO, b" ");
-    io::print_decimal(STDOUT_FILENO, n);
-}
 
 fn show(v: Verdict) {
     match v {
         Verdict::Accepted { height, nodes } => {
-            io::write_all(STDOUT_FILENO, b"accepted");
-            number(height as u64);
-            number(nodes as u64);
+            say(b"accepted");
+            say_number(height as u64);
+            say_number(nodes as u64);
         }
         Verdict::Refused {
             reason,
             file,
             place,
-        } => {
-            io::write_all(STDOUT_FILENO, b"refused");
-            number(packet::reason_number(reason) as u64);
-            number(packet::file_number(file) as u64);
-            number(place as u64);
-        }
+        } => say_refused(reason, file, place),
     }
-    io::write_all(STDOUT_FILENO, b"\n");
+    say(b"\n");
 }
 
 // Judges one packet with a room of its own.

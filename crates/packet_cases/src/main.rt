@@ -1,76 +1,24 @@
 // Reads every packet of two files of packet cases (second/README.md: how many files are read, and four files, each a string) and prints one line for each. The
 // cases and the lines that are expected come from the second program alone.
-use libc::STDOUT_FILENO;
-use packet::File;
 use packet::Read;
-use packet::Reason;
-use sexp::Octets;
+use programs::load;
+use programs::say;
+use programs::say_number;
+use programs::say_refused;
+use programs::string;
 ghost use Prim.Native.Nat.{_<_, _≤_};
 ghost use lib.ListN.{length};
-ghost use Rattle.io.specs.Counts.{Counts};
-
-// A part of the case file.
-struct Part {
-    from: usize,
-    to: usize,
-}
-
-// Reads a file whole, as far as the buffer goes; a missing one counts as empty.
-fn load(path: &[u8], buf: &mut [u8]) -> usize
-    ensures { λ r. ⌜ Counts r (now (buf .exit)) ⌝ }
-{
-    let fd = os::open_read(path);
-    if fd < 0 {
-        return 0;
-    }
-    let n = io::read_full(fd, buf);
-    libc::close(fd);
-    n
-}
-
-// The string at an offset; where none stands, nothing up to the end.
-fn string(s: &[u8], at: usize) -> Part
-    requires { ⌜ at ≤ length (now s) ⌝ }
-    ensures { λ r. ⌜ (at ≤ r .to) × ((r .from ≤ r .to) × (r .to ≤ length (now (s .entry)))) ⌝ }
-{
-    match sexp::plain(s, at) {
-        Octets::Nothing => Part {
-            from: s.len(),
-            to: s.len(),
-        },
-        Octets::Span(from, n) => Part { from, to: from + n },
-    }
-}
-
-fn number(n: u64) {
-    io::write_all(STDOUT_FILENO, b" ");
-    io::print_decimal(STDOUT_FILENO, n);
-}
-
-fn sound(rules: usize, candidates: usize) {
-    io::write_all(STDOUT_FILENO, b"sound");
-    number(rules as u64);
-    number(candidates as u64);
-    io::write_all(STDOUT_FILENO, b"\n");
-}
-
-fn refused(why: Reason, file: File, at: usize) {
-    io::write_all(STDOUT_FILENO, b"refused");
-    number(packet::reason_number(why) as u64);
-    number(packet::file_number(file) as u64);
-    number(at as u64);
-    io::write_all(STDOUT_FILENO, b"\n");
-}
 
 fn show(p: Read) {
     match p {
         Read::Sound(rules, candidates) => {
-            sound(rules, candidates);
+            say(b"sound");
+            say_number(rules as u64);
+            say_number(candidates as u64);
         }
-        Read::Refused(why, file, at) => {
-            refused(why, file, at);
-        }
+        Read::Refused(why, file, at) => say_refused(why, file, at),
     }
+    say(b"\n");
 }
 
 // Reads the four files of a case, or three, and shows the answer.

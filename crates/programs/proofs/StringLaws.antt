@@ -24,3 +24,7 @@ pub string-once : {s : List ℕ} {at b c b′ c′ : ℕ} → StringAt s at b c 
 string-once {s = s} {at = at} p q =
     let e = plain-answer s at (p .octets) (q .octets) (p .stands) (q .stands) in
     (p .start ∙ ap (starts (length s)) e ∙ sym (q .start), p .end ∙ ap (ends (length s)) e ∙ sym (q .end))
+
+-- a string that starts at or after `first`, inside the file, ends there too
+pub string-after : (first at n from to : ℕ) → (first ≤ at) × (at ≤ n) → (min at n ≤ to) × ((from ≤ to) × (to ≤ n)) → (first ≤ to) × (to ≤ n)
+string-after first at n from to (l, h) (m, (k, j)) = (omega arith, omega arith)
