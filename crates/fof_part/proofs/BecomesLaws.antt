@@ -16,6 +16,7 @@ use Rattle.calculus.specs.Formula as numbered
 use Rattle.fof_truth.specs.Formula.{Terms, Formula}
 use Rattle.fof_truth.specs.Numbered.{Scope, termsIn, formulaIn}
 use Rattle.fof_truth.specs.Sentence.{asAtom, asGoal, asClause}
+use Rattle.fof_part.specs.Sign.{Sign}
 use Rattle.fof_part.specs.Mark.{Mark, marksOnto, marksOf}
 use Rattle.fof_part.specs.Due.{Sort, Link, Quantifier, linkWord, quantifierWord, headed, manyHeaded}
 use Rattle.fof_part.proofs.OntoLaws.{onto}
@@ -68,6 +69,11 @@ Links l Sort.head = ⊥
 abbrev pub linking : Link → Formula → Formula → Formula
 linking Link.conj = Formula.and
 linking Link.disj = Formula.or
+
+-- the sign of a connective
+abbrev pub linkSign : Link → Sign
+linkSign Link.conj = Sign.both
+linkSign Link.disj = Sign.either
 
 pub becomes-linked : (l : Link) (s : Sort) (sc : Scope) (F G : Formula) (d e : Sexp) → Links l s → Becomes s sc F d → Becomes s sc G e → Becomes s sc (linking l F G) (word (linkWord l) (two d e))
 becomes-linked Link.conj Sort.goal sc F G d e a (goal {B = B} {g = g} p h) (goal {B = C} {g = k} q i) =

@@ -9,6 +9,7 @@ use Rattle.fof_truth.specs.Formula.{Term, Terms, Formula}
 use Rattle.fof_part.specs.Sign.{Sign}
 use Rattle.fof_part.specs.Spelled.{TermSpelt, TermsSpelt, NamesSpelt, UnitSpelt, LogicSpelt, ChainSpelt}
 use Rattle.fof_part.specs.Due.{Link, Chain, numberIn, chain}
+use Rattle.fof_part.proofs.BecomesLaws.{linkSign}
 
 -- the parts of signs are no longer than the whole
 pub front-within : (w v : List Sign) (n : ℕ) → length (w ++ v) < n → length w < n
@@ -106,11 +107,6 @@ unit-passed {F = F} {w = w} u d k = unit-to (suc (length w)) F w u (omega arith)
 -- in front of signs that end a formula: a unit alone, a chain of one connective, an implication
 pub alone-chain : {F : Formula} {w : List Sign} → UnitSpelt F w → (k : List Sign) → chain 0 k ≡ Chain.lone → chain 0 (w ++ k) ≡ Chain.lone
 alone-chain u k e = unit-passed u 0 k ∙ e
-
--- the sign of a connective
-abbrev pub linkSign : Link → Sign
-linkSign Link.conj = Sign.both
-linkSign Link.disj = Sign.either
 
 link-counts : (l : Link) (x : List Sign) → chain 0 (linkSign l ∷ x) ≡ Chain.linked l (suc (numberIn (chain 0 x)))
 link-counts Link.conj x = refl

@@ -1,23 +1,23 @@
 -- What a due leaves is worth less than it and the signs that it took (`cost`, 6 for each sign), so the steps that a formula is given never run out: any two numbers of steps that are enough
 -- give the same answer, whether there is one or not.
 use Prim.Native.Nat.{ℕ, zero, suc, _+_, _*_, _≤_, _<_}
-use mathlib.Core.Path.{_≡_, refl, sym, _∙_, ap, ap₂, subst}
+use mathlib.Core.Path.{_≡_, refl, sym, _∙_, ap, subst}
 use mathlib.Core.Bool.{Bool, true, false}
 use mathlib.Core.List.{List, [], _∷_, _++_}
-use mathlib.Core.Option.{Option, none, some, Option·some-injective}
+use mathlib.Core.Option.{Option, none, some}
 use native.Mathlib.Omega.{arith}
 use lib.Dec.{eqb}
 use lib.ListN.{length}
-use Rattle.basics.specs.Choice.{_>>=_, maybe, nope, bind-some, provided-some, provided}
+use Rattle.basics.specs.Choice.{_>>=_, maybe, nope, provided}
 use Rattle.basics.specs.Text.{octets}
 use Rattle.harrop.specs.Formula.{Name}
 use Rattle.sexp.specs.Decimal.{decimal}
 use Rattle.sexp.specs.Words.{isName}
 use Rattle.fof_truth.specs.Numbered.{Scope, numberOf}
-use Rattle.fof_part.specs.Sign.{Sign, code, opensCode, closesCode, listsCode, endsCode, commaCode, colonCode, bothCode, eitherCode, thenCode}
+use Rattle.fof_part.specs.Sign.{Sign, code, opensCode, closesCode, listsCode, endsCode, commaCode, colonCode, thenCode}
 use Rattle.fof_part.specs.Mark.{Mark}
-use Rattle.fof_part.specs.Due.{Sort, Link, Quantifier, Due, Chain, chain, Did, did, byChain, quantified, topped, unitAt, taking, linkCode, variableAt, behindAt, argumentsAt, termsAt, termAt, left, dueAt, Ran, after, run, cost, costs, formulaAt}
-use Rattle.fof_part.proofs.RunLaws.{Step, run-step, step-run, run-none, run-more}
+use Rattle.fof_part.specs.Due.{Sort, Link, Quantifier, Due, Chain, chain, Did, did, byChain, quantified, topped, unitAt, taking, linkCode, variableAt, termAt, left, dueAt, Ran, after, run, cost, costs, formulaAt}
+use Rattle.fof_part.proofs.RunLaws.{run-none, run-more}
 
 -- what a step leaves is worth less than n
 abbrev Pays : ℕ → Option Did → Type 0

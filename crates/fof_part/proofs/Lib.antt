@@ -2,7 +2,10 @@ pub mod OntoLaws
 pub mod RunLaws
 pub mod CostLaws
 pub mod MarkLaws
-pub mod ChainLaws
 pub mod BecomesLaws
+pub mod ChainLaws
 pub mod MeantLaws
 pub mod SoundLaws
+pub mod TakenLaws
+pub mod WriteLaws
+pub mod CompleteLaws

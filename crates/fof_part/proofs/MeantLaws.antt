@@ -20,7 +20,7 @@ use Rattle.fof_part.specs.Spelled.{TermSpelt, TermsSpelt, NamesSpelt, Un
 use Rattle.fof_part.specs.Mark.{Mark, marksAllOnto, marksOf}
 use Rattle.fof_part.specs.Due.{Sort, Link, Quantifier, Due, linkWord, quantifierWord, headed, manyHeaded, left}
 use Rattle.fof_part.proofs.OntoLaws.{onto, onto-all}
-use Rattle.fof_part.proofs.BecomesLaws.{Becomes, becomes-true, becomes-atom, becomes-asked, becomes-ruled, Links, linking, becomes-linked, Quantifies, quantifying, becomes-quantified, groupedSexp, behindMarks, count, one-marks, two-marks, grouped-marks}
+use Rattle.fof_part.proofs.BecomesLaws.{linkSign, Becomes, becomes-true, becomes-atom, becomes-asked, becomes-ruled, Links, linking, becomes-linked, Quantifies, quantifying, becomes-quantified, groupedSexp, behindMarks, count, one-marks, two-marks, grouped-marks}
 
 -- these signs and these marks, and no others
 pub data Exactly (w : List Sign) (ms : List Mark) : List Sign → List Mark → Type 0 where
@@ -45,10 +45,6 @@ pub data BehindSpelt (q : Quantifier) : Formula → List Sign → Type 0 where
   further : {F : Formula} {w : List Sign} → VariableSpelt q F w → BehindSpelt q F (Sign.comma ∷ w)
 
 -- further members of a chain, each behind the connective
-abbrev pub linkSign : Link → Sign
-linkSign Link.conj = Sign.both
-linkSign Link.disj = Sign.either
-
 pub data Members (l : Link) (s : Sort) (sc : Scope) : List Formula → List Sexp → List Sign → Type 0 where
   no-more : Members l s sc [] [] []
   one-more : {G : Formula} {Gs : List Formula} {e : Sexp} {es : List Sexp} {w v : List Sign} → UnitSpelt G w → Becomes s sc G e → Members l s sc Gs es v → Members l s sc (G ∷ Gs) (e ∷ es) (linkSign l ∷ (w ++ v))

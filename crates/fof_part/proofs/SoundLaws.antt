@@ -192,7 +192,7 @@ link-code : (l : Link) → 2 ≤ linkCode l
 link-code Link.conj = omega arith
 link-code Link.disj = omega arith
 
-link-sign : (l : Link) → plainSign (linkCode l) ≡ meant.linkSign l
+link-sign : (l : Link) → plainSign (linkCode l) ≡ becomes.linkSign l
 link-sign Link.conj = refl
 link-sign Link.disj = refl
 
@@ -201,7 +201,7 @@ unfolding dueAt
 step (Due.formula s) sc ss = formula-step s (chain 0 ss) sc ss
 step (Due.unit s) sc ss = unit-step s sc ss
 step (Due.more l s zero) sc ss = ([], refl, refl, λ w ms m. meant.no-members l s sc w ms m)
-step (Due.more l s (suc n)) sc ss = bind-stepped (Due.more l s (suc n)) sc ss (taking (linkCode l) ss) (λ r. did [] (Due.unit s ∷ Due.shut ∷ Due.more l s n ∷ []) sc r) λ r e. (meant.linkSign l ∷ [], taken (linkCode l) ss r (link-code l) e ∙ ap (λ (x : Sign). x ∷ r) (link-sign l), refl, λ w ms m. meant.member l s n sc w ms m)
+step (Due.more l s (suc n)) sc ss = bind-stepped (Due.more l s (suc n)) sc ss (taking (linkCode l) ss) (λ r. did [] (Due.unit s ∷ Due.shut ∷ Due.more l s n ∷ []) sc r) λ r e. (becomes.linkSign l ∷ [], taken (linkCode l) ss r (link-code l) e ∙ ap (λ (x : Sign). x ∷ r) (link-sign l), refl, λ w ms m. meant.member l s n sc w ms m)
 step Due.arrow sc ss = bind-stepped Due.arrow sc ss (taking thenCode ss) (λ r. did [] [] sc r) λ r e. (Sign.then ∷ [], taken thenCode ss r (omega arith) e, refl, λ w ms m. meant.nothing (Sign.then ∷ []) [] sc w ms m)
 step Due.close sc ss = bind-stepped Due.close sc ss (taking closesCode ss) (λ r. did [] [] sc r) λ r e. (Sign.closes ∷ [], taken closesCode ss r (omega arith) e, refl, λ w ms m. meant.nothing (Sign.closes ∷ []) [] sc w ms m)
 step (Due.list q s) sc ss = bind-stepped (Due.list q s) sc ss (taking listsCode ss) (λ r. did [] (Due.variable q s ∷ []) sc r) λ r e. (Sign.lists ∷ [], taken listsCode ss r (omega arith) e, refl, λ w ms m a. meant.spelt-as s sc Sign.lists (λ F v u. meant.list u) (just (Due.variable q s) sc w ms m a))
