@@ -21,7 +21,8 @@ use Rattle.room.specs.Layout.{words}
 use Rattle.room.specs.Start.{Tabled}
 use Rattle.room.proofs.StartLaws.{cleared, untouched}
 use Rattle.provable.specs.Provable.{isSome}
-use Rattle.writer.specs.Spelled.{written, counted}
+use Rattle.writer.specs.Spelled.{written}
+use Rattle.pen.specs.Laid.{counted}
 use Rattle.writer.specs.declared.Drawn.{Drawn}
 use Rattle.propose.specs.declared.Proposal.{Proposal}
 use Rattle.propose.specs.declared.Proposal.the-variants as P

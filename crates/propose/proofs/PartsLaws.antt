@@ -22,7 +22,7 @@ use Rattle.writer.specs.Writing.{Writing}
 use Rattle.writer.specs.declared.Drawn.{Drawn}
 use Rattle.propose.specs.Proposed.{mostHeight, firstStrip, over}
 use Rattle.propose.specs.Parts.{SetOut, Telling, Measuring, Filling}
-use Rattle.writer.proofs.LaidLaws.{laid-over}
+use Rattle.pen.proofs.LaidLaws.{laid-over}
 
 -- a packet that is read is set out once its tables are filled
 pub set-out : {h : ℕ} {rs gs ts : List ℕ} (room after : List ℕ) (b : Books) → SoundBooks rs gs ts b → h ≤ mostHeight → words ≤ length room → length after ≡ length room → (words ≤ length room → Tabled after rs ts) → SetOut h rs gs ts after b

@@ -14,7 +14,8 @@ use Rattle.room.specs.Layout.{words}
 use Rattle.room.specs.Where.{Means, filesOf}
 use Rattle.room.specs.Start.{start}
 use Rattle.provable.specs.Provable.{isSome}
-use Rattle.writer.specs.Spelled.{written, counted}
+use Rattle.writer.specs.Spelled.{written}
+use Rattle.pen.specs.Laid.{counted}
 use Rattle.writer.specs.declared.Drawn.{Drawn}
 use Rattle.propose.specs.declared.Proposal.{Proposal}
 use Rattle.propose.specs.Proposed.{mostHeight, Comes, firstStrip, ofFirst, comesTo, proposal, over, left}

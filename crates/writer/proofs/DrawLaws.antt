@@ -1,5 +1,5 @@
 -- What is drawn of a strip, node by node: a head, the parts one behind another, and the closing parenthesis. No strip that is 64 high has more nodes than a machine word counts.
-use Prim.Native.Nat.{ℕ, suc, _+_, _/_, _%_, _≤_, _<_}
+use Prim.Native.Nat.{ℕ, suc, _≤_, _<_}
 use mathlib.Core.Path.{_≡_, refl, sym, _∙_, ap, subst}
 use mathlib.Core.List.{List, [], _∷_, _++_, append-assoc}
 use mathlib.Core.Option.{Option, none, some, Option·some-injective}
@@ -9,31 +9,18 @@ use Rattle.basics.specs.Choice.{_>>=_, bind-some}
 use Rattle.harrop.specs.Formula.{Goal, Step, Strip, height, nodes}
 use Rattle.harrop.specs.Bindings.{Bindings}
 use Rattle.harrop.specs.Place.{End}
-use Rattle.writer.specs.Spelled.{written, numeral, stepBytes, pathBytes}
+use Rattle.writer.specs.Spelled.{written, stepBytes, pathBytes}
+use Rattle.pen.specs.Numeral.{numeral}
 use Rattle.writer.specs.Chosen.{usedAt}
-use Rattle.writer.specs.Laid.{Puts}
+use Rattle.pen.specs.Laid.{Puts}
 use Rattle.writer.specs.Drawn.{nothing, beside, Closes, Draws, DrawsRest, restBytes, restHeight, restNodes, ended, useOf}
 use Rattle.writer.specs.declared.Drawn.{Drawn}
 use Rattle.writer.proofs.StripLaws.{few-nodes}
-use Rattle.writer.proofs.SpelledLaws.{top-spelled, and-spelled, left-spelled, right-spelled, some-spelled, all-spelled, imp-spelled, use₀-spelled, use₁-spelled, no-steps, one-step, l-bytes, r-bytes, n-bytes, numeral-1, numeral-2, numeral-3}
-use Rattle.writer.proofs.LaidLaws.{puts-then, puts-as}
+use Rattle.writer.proofs.SpelledLaws.{top-spelled, and-spelled, left-spelled, right-spelled, some-spelled, all-spelled, imp-spelled, use₀-spelled, use₁-spelled, no-steps, one-step, l-bytes, r-bytes, n-bytes}
+use Rattle.pen.proofs.LaidLaws.{puts-then, puts-as}
 
 few : (S : Strip) → height S ≤ 64 → nodes S < 18446744073709551616
 few S l = few-nodes 64 S l
-
--- a number, digit by digit
-module _ (i : ℕ) {at m n : ℕ} {d d1 d2 : List ℕ} where
-  pub digits-1 : i < 10 → Puts at (octets "1:") d d1 m → Puts m ((48 + i % 10) ∷ []) d1 d2 n → Puts at (numeral i) d d2 n
-  digits-1 l p q =
-      puts-as (ap (λ (x : ℕ). octets "1:" ++ ((48 + x) ∷ [])) {x = i % 10} {y = i} (omega arith) ∙ sym (numeral-1 i l)) (puts-then p q)
-
-  pub digits-2 : {k : ℕ} {e : List ℕ} → 10 ≤ i → i < 100 → Puts at (octets "2:") d d1 m → Puts m ((48 + i / 10 % 10) ∷ []) d1 e k → Puts k ((48 + i % 10) ∷ []) e d2 n → Puts at (numeral i) d d2 n
-  digits-2 l u p q q1 =
-      puts-as (ap (λ (x : ℕ). octets "2:" ++ ((48 + x) ∷ (48 + i % 10) ∷ [])) {x = i / 10 % 10} {y = i / 10} (omega arith) ∙ sym (numeral-2 i l u)) (puts-then p (puts-then q q1))
-
-  pub digits-3 : {k k1 : ℕ} {e e1 : List ℕ} → 100 ≤ i → i < 1000 → Puts at (octets "3:") d d1 m → Puts m ((48 + i / 100 % 10) ∷ []) d1 e k → Puts k ((48 + i / 10 % 10) ∷ []) e e1 k1 → Puts k1 ((48 + i % 10) ∷ []) e1 d2 n → Puts at (numeral i) d d2 n
-  digits-3 l u p q q1 q2 =
-      puts-as (ap (λ (x : ℕ). octets "3:" ++ ((48 + x) ∷ (48 + i / 10 % 10) ∷ (48 + i % 10) ∷ [])) {x = i / 100 % 10} {y = i / 100} (omega arith) ∙ sym (numeral-3 i l u)) (puts-then p (puts-then q (puts-then q1 q2)))
 
 pub draws-top : {at m : ℕ} {d d1 d2 : List ℕ} {a r : Drawn} → Puts at (octets "(3:top") d d1 m → a ≡ nothing m → Closes a d1 d2 r → Draws at Strip.top d d2 r
 draws-top {at} {m} {d} {d1} {d2} {a} {r} p e h =

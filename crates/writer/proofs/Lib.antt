@@ -2,7 +2,6 @@ pub mod ChosenLaws
 pub mod TakenLaws
 pub mod StripLaws
 pub mod SpelledLaws
-pub mod LaidLaws
 pub mod DrawLaws
 pub mod FirstLaws
 pub mod PathingLaws

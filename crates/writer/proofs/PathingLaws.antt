@@ -15,7 +15,6 @@ use Rattle.harrop.specs.Formula.{Term, Atom, Goal, Clause, Step, Strip, height}
 use Rattle.harrop.specs.Bindings.{Bindings}
 use Rattle.harrop.specs.Place.{AtHand, Hand, Plain, End, listed, allowed}
 use Rattle.harrop.specs.Search.{first}
-use Rattle.harrop.proofs.ListLaws.{member-below}
 use Rattle.harrop.proofs.SearchLaws.{dressed-some}
 use Rattle.harrop.proofs.FirstLaws.{first-within}
 use Rattle.harrop.proofs.FoundLaws.{found-is-first}
@@ -48,9 +47,9 @@ use Rattle.provable.proofs.ReadyLaws.{allowed-below, ready-kept}
 use Rattle.provable.proofs.HandLaws.{opened-none, opened-clause}
 use Rattle.provable.proofs.ProvingLaws.{bytesAt, both-of}
 use Rattle.provable.proofs.PassingLaws.{taken-part, taken-kept, push-kept, taken-with, bodyAt, ready-body, passing-at}
-use Rattle.writer.specs.Spelled.{numeral}
+use Rattle.pen.specs.Numeral.{numeral}
 use Rattle.writer.specs.Chosen.{firstYes, stepping, usedAt, candidateFrom, clauseFrom, way}
-use Rattle.writer.specs.Laid.{Puts}
+use Rattle.pen.specs.Laid.{Puts}
 use Rattle.writer.specs.Drawn.{Closes, Draws, DrawsRest, ended, useOf}
 use Rattle.writer.specs.Writing.{Did, Writing, WritingAs, Pathing, PathingAs, FirstClause, FirstThrough}
 use Rattle.writer.specs.declared.Drawn.{Drawn}
@@ -172,7 +171,7 @@ module _ {f : Files} {room : List ℕ} {w : Where} {x : Spot} {left at : ℕ} {d
       record { kept = kept-then room mid after (omega arith) (omega arith) (m .kept) (m′ .kept); done = drawn-as {path = Step.r ∷ rest} v refl (rest-r {path = rest} b (m′ .done)) })
 
   -- an `all`, with the candidate that is chosen
-  pub all-with : {mid after d1 d2 : List ℕ} {v : Spot} {m : ℕ} (nest i : ℕ) → FirstThrough f room mid w x nest left i → length mid ≡ length room → (i < 1000 → Puts at (numeral i) d d1 m) → v ≡ deeper x 6 → Pathing f (set mid (plus (x .base) (x .count)) (held (bindingWord (Candidate i)))) after d1 d2 w v nest left m r → PathingAs W.All f room after d d2 w x nest left at r
+  pub all-with : {mid after d1 d2 : List ℕ} {v : Spot} {m : ℕ} (nest i : ℕ) → FirstThrough f room mid w x nest left i → length mid ≡ length room → Puts at (numeral i) d d1 m → v ≡ deeper x 6 → Pathing f (set mid (plus (x .base) (x .count)) (held (bindingWord (Candidate i)))) after d1 d2 w v nest left m r → PathingAs W.All f room after d d2 w x nest left at r
   all-with {mid} {after} {d1} {d2} nest i first long b j p ds us o c bs a dc bs′ path e B h =
       let (q, y, n) = clause-is dc h in
       subst (Claim f room after d d2 ds us w x (suc nest) left at r o c bs a bs′ path e B) (sym n)
@@ -188,7 +187,7 @@ module _ {f : Files} {room : List ℕ} {w : Where} {x : Spot} {left at : ℕ} {d
       let m′ = pathing-at j p ds us o c bs a y (Candidate i ∷ bs′) rest e B (omega arith) (taken-with t′ 6 i y (first-part (octets "all") (heads .1 .1 .1 .0) (t .framed .stands)) (omega arith) (t .scoped) below) z u in
       record {
         kept = kept-then room mid after (omega arith) (omega arith) (m .kept) (kept-then mid (set mid (plus (x .base) (x .count)) s) after (omega arith) (omega (arith, t .framed .shallow)) (push-kept t′ s) (m′ .kept));
-        done = drawn-as {path = Step.n i ∷ rest} v refl (rest-n {path = rest} (b (omega (arith, t .ready .place .booked .candidates .few, below))) (m′ .done));
+        done = drawn-as {path = Step.n i ∷ rest} v refl (rest-n {path = rest} b (m′ .done));
       })
 
 -- what is claimed of a goal
@@ -239,7 +238,7 @@ module _ {f : Files} {room mid : List ℕ} {w : Where} {left at : ℕ} {d : List
       let (gone, same) = opened-none (ready-kept (z .kept) long t) k (subst (Opened mid after k (w .supposed) (w .top)) e p) in
       nope (sym gone ∙ ap (getElem? c) (z .done) ∙ m))
 
-  pub use-drawn : {now after d1 d2 d3 d4 d5 : List ℕ} {q : Chosen} {y : Spot} {l m n : ℕ} {s : Drawn} → Opened mid now k (w .supposed) (w .top) q → q ≡ C.Clause y → Puts at (octets "(3:use") d d1 l → (k < 1000 → Puts l (numeral k) d1 d2 m) → Puts m (octets "(") d2 d3 n → Pathing f now after d3 d4 w y 64 left n s → Closes s d4 d5 r → WritingAs W.Atom f room after d d5 w left at r
+  pub use-drawn : {now after d1 d2 d3 d4 d5 : List ℕ} {q : Chosen} {y : Spot} {l m n : ℕ} {s : Drawn} → Opened mid now k (w .supposed) (w .top) q → q ≡ C.Clause y → Puts at (octets "(3:use") d d1 l → Puts l (numeral k) d1 d2 m → Puts m (octets "(") d2 d3 n → Pathing f now after d3 d4 w y 64 left n s → Closes s d4 d5 r → WritingAs W.Atom f room after d d5 w left at r
   use-drawn {now} {after} {d5 = d5} p e head number path m close ds us o c bs g S h =
       let (a, n) = goal-is g h in
       subst (GoalClaim f room after d d5 ds us w (suc left) at r o c bs S) (sym n)
@@ -250,8 +249,7 @@ module _ {f : Files} {room mid : List ℕ} {w : Where} {left at : ℕ} {d : List
       let z′ = use-taken us left o c bs a S k (x .clause) (ch ∙ ap some (sym (z .done))) (x .there) u in
       let y = m ds us o c bs a (x .clause .clause) (x .clause .bindings) (z′ .path) (z′ .end) (z′ .body) (omega (arith, x .taken .framed .shallow)) (x .taken) (z′ .through) (z′ .behind) in
       let low : height S ≤ 64 = omega (arith, first-within (listed us) (found-is-first (listed us) (suc left) o c bs (Goal.atom a) S u), t .enough .supposed) in
-      let few : k < 1000 = omega (arith, member-below c k (x .clause) (x .there), t .place .hand .number, t .place .booked .rules .few, t .enough .supposed) in
       record {
         kept = kept-then room mid after (omega arith) (omega arith) (z .kept) (kept-then mid now after (omega arith) (omega (arith, x .taken .fresh)) (x .kept) (y .kept));
-        done = use-whole S k (z′ .path) (z′ .body) (z′ .whole) low head (number few) path (y .done) close;
+        done = use-whole S k (z′ .path) (z′ .body) (z′ .whole) low head number path (y .done) close;
       })

@@ -40,8 +40,8 @@ use Rattle.provable.specs.Proving.{Ready, Proving, provesWith}
 use Rattle.heads.proofs.HeadLaws.{goal-says, goal-is, goal-has-row, heads, first-part, second-found, first-found}
 use Rattle.provable.proofs.ReadyLaws.{ready-kept, ready-part, ready-with, ready-all, ready-under}
 use Rattle.provable.proofs.ProvingLaws.{bytesAt, both-of, proving-at}
-use Rattle.writer.specs.Spelled.{numeral}
-use Rattle.writer.specs.Laid.{Puts}
+use Rattle.pen.specs.Numeral.{numeral}
+use Rattle.pen.specs.Laid.{Puts}
 use Rattle.writer.specs.Drawn.{beside, Closes, Draws}
 use Rattle.writer.specs.Chosen.{candidateFrom}
 use Rattle.writer.specs.Writing.{Did, Writing, WritingAs, FirstWith}
@@ -149,7 +149,7 @@ module _ {f : Files} {room : List ℕ} {w : Where} {at : ℕ} {d : List ℕ} {r 
         })
 
     -- a `some`, with the first candidate that does
-    pub some-drawn : {mid after d1 d2 d3 d4 : List ℕ} {v : Where} {m m′ : ℕ} {a : Drawn} (i : ℕ) → FirstWith f room mid w left i → length mid ≡ length room → Puts at (octets "(4:some") d d1 m → (i < 1000 → Puts m (numeral i) d1 d2 m′) → v ≡ bound w 7 (w .parameters) → Writing f (set mid (w .top) (held (bindingWord (Candidate i)))) after d2 d3 v left m′ a → Closes a d3 d4 r → WritingAs W.Some f room after d d4 w left at r
+    pub some-drawn : {mid after d1 d2 d3 d4 : List ℕ} {v : Where} {m m′ : ℕ} {a : Drawn} (i : ℕ) → FirstWith f room mid w left i → length mid ≡ length room → Puts at (octets "(4:some") d d1 m → Puts m (numeral i) d1 d2 m′ → v ≡ bound w 7 (w .parameters) → Writing f (set mid (w .top) (held (bindingWord (Candidate i)))) after d2 d3 v left m′ a → Closes a d3 d4 r → WritingAs W.Some f room after d d4 w left at r
     some-drawn {mid} {after} {d4 = d4} i with′ l head number j p close ds us o c bs g S h =
         let (q, x, n) = goal-is g h in
         subst (GoalClaim f room after d d4 ds us w (suc left) at r o c bs S) (sym n)
@@ -164,7 +164,7 @@ module _ {f : Files} {room : List ℕ} {w : Where} {at : ℕ} {d : List ℕ} {r 
         let up = held (bindingWord (Candidate i)) in
         record {
           kept = kept-then room mid after (omega arith) (omega arith) (y .kept) (kept-then mid (set mid (w .top) up) after (omega arith) (omega (arith, rd .enough .bindings)) (push-keeps mid (w .supposed) (w .top) up (omega (arith, rd .enough .supposed)) (omega (arith, rd .place .framed .above, rd .place .tight))) (one .kept));
-          done = drawn-as is (λ l. draws-some l head (number (omega (arith, one-of, rd .place .booked .candidates .few))) (one .done) close) (low rd z);
+          done = drawn-as is (λ l. draws-some l head number (one .done) close) (low rd z);
         })
 
     -- an `all`, with one parameter more

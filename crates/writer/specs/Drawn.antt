@@ -12,7 +12,7 @@ use Rattle.harrop.specs.Place.{End}
 use Rattle.room.specs.Where.{plus}
 use Rattle.writer.specs.Spelled.{written}
 use Rattle.writer.specs.Spelled.{pathBytes}
-use Rattle.writer.specs.Laid.{Puts}
+use Rattle.pen.specs.Laid.{Puts}
 use Rattle.writer.specs.declared.Drawn.{Drawn}
 
 -- nothing, at a place

@@ -6,7 +6,7 @@ use Rattle.writer.proofs.put.shut.Tie as tie
 use Rattle.writer.proofs.put.shut.Reads as reads
 use Rattle.writer.proofs.put.shut.Lts as lts
 use Rattle.writer.proofs.put.nothing.Reads as nothing-reads
-use Rattle.writer.proofs.put.put.Reads as put-reads
+use Rattle.pen.proofs.put.Reads as put-reads
 
 -- src/put.rt:119:28
 slice-aggregate-put : tie.Need-slice-aggregate-put

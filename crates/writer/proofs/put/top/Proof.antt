@@ -7,7 +7,7 @@ use Rattle.writer.proofs.put.top.Reads as reads
 use Rattle.writer.proofs.put.top.Lts as lts
 use Rattle.writer.proofs.put.close.Reads as close-reads
 use Rattle.writer.proofs.put.nothing.Reads as nothing-reads
-use Rattle.writer.proofs.put.put.Reads as put-reads
+use Rattle.pen.proofs.put.Reads as put-reads
 
 -- src/put.rt:127:28
 slice-aggregate-put : tie.Need-slice-aggregate-put

@@ -67,8 +67,8 @@ use Rattle.writer.proofs.first.first_with.Reads as first-with-reads
 use Rattle.writer.proofs.put.beside.Reads as beside-reads
 use Rattle.writer.proofs.put.close.Reads as close-reads
 use Rattle.writer.proofs.put.nothing.Reads as nothing-reads
-use Rattle.writer.proofs.put.put.Reads as put-reads
-use Rattle.writer.proofs.put.put_number.Reads as put-number-reads
+use Rattle.pen.proofs.put.Reads as put-reads
+use Rattle.pen.proofs.put_number.Reads as put-number-reads
 use Rattle.writer.proofs.put.shut.Reads as shut-reads
 use Rattle.writer.proofs.put.top.Reads as top-reads
 use Rattle.writer.proofs.write.+path_all+path_and+write_all+write_body+write_both+write_either+write_goal+write_path+write_some+write_under+write_use.{

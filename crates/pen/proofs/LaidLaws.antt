@@ -5,8 +5,7 @@ use mathlib.Core.List.{List, [], _∷_, _++_, append-assoc}
 use native.Mathlib.Omega.{arith}
 use lib.ListN.{length, getD, take, drop, set, length-append, length-set}
 use lib.Seq.{take-suc, take-all, set-out}
-use Rattle.writer.specs.Spelled.{counted}
-use Rattle.writer.specs.Laid.{laid, Puts}
+use Rattle.pen.specs.Laid.{counted, laid, Puts}
 
 pub laid-length : (at : ℕ) (w d : List ℕ) → length (laid at w d) ≡ length d
 unfolding laid
