@@ -9,3 +9,5 @@ pub mod SoundLaws
 pub mod TakenLaws
 pub mod WriteLaws
 pub mod CompleteLaws
+pub mod ExactLaws
+pub mod Cases

@@ -4,3 +4,4 @@ pub mod Mark
 pub mod Due
 pub mod Lines
 pub mod Files
+pub mod Cases
