@@ -14,7 +14,7 @@ use Rattle.fof_tokens.specs.declared.first.First.the-variants as first
 use Rattle.fof_tokens.specs.Bytes.{within, isSpace, isSmall, isCapital, isNonzero, isSign, isExponent, isPlain}
 use Rattle.fof_tokens.specs.Machine.{Row, step}
 use Rattle.fof_tokens.specs.Next.{table}
-use Rattle.fof_tokens.specs.Begins.{inWord, dollars, inQuotes, quoteOpen, unsigned, inDecimal, afterDecimal, oneMore, afterMinus, afterTilde, afterLess, begun, isSlash, Begins, oneOf, signs, SignOf}
+use Rattle.fof_tokens.specs.Begins.{inWord, dollars, inQuotes, quoteOpen, unsigned, inDecimal, afterDecimal, oneMore, afterMinus, afterTilde, afterLess, begun, Begins, oneOf, signs, SignOf}
 use Rattle.fof_tokens.proofs.RuleLaws.{or-true}
 use Rattle.fof_tokens.proofs.SortLaws.{inside}
 

@@ -1,10 +1,10 @@
 -- The tests of classes of bytes, as the code makes them one after another.
 use Prim.Native.Nat.{ℕ, _<_, _≤_}
-use mathlib.Core.Path.{_≡_, refl, sym, _∙_, ap}
-use mathlib.Core.Bool.{Bool, true, false, _&&_, _||_}
+use mathlib.Core.Path.{_≡_, refl}
+use mathlib.Core.Bool.{Bool, true, false, _||_}
 use lib.Dec.{eqb, leb}
 use borrow.Author.Tests.{le-leb, lt-leb, eq-eqb, ne-eqb}
-use Rattle.fof_tokens.specs.Bytes.{within, isSpace, isSmall, isCapital, isDigit, isAlnum, isSign, isExponent, isEscaped, inLine}
+use Rattle.fof_tokens.specs.Bytes.{within, isSpace, isSmall, isCapital, isDigit, isAlnum, isSign, isExponent, isEscaped}
 
 pub among-tests : (a b c : ℕ) → a ≤ c → leb c b ≡ within a b c
 among-tests a b c h = rw (le-leb a c h) refl

@@ -1,15 +1,14 @@
 -- The tokens that are computed are those into which the text is cut, and a text is cut in one way or in none.
 use Prim.Native.Nat.{ℕ, zero, suc, _+_, _-_, _<_, _≤_}
-use mathlib.Core.Path.{_≡_, refl, sym, _∙_, ap, ap₂, subst}
+use mathlib.Core.Path.{_≡_, refl, sym, _∙_, ap, subst}
 use mathlib.Core.List.{List, [], _∷_}
-use mathlib.Core.Option.{Option, none, some, Option·none-ne-some, Option·some-injective}
+use mathlib.Core.Option.{Option, none, some, Option·some-injective}
 use mathlib.Core.Logic.{_↔_}
 use native.Mathlib.Omega.{arith}
 use lib.ListN.{length, take, drop}
-use Rattle.basics.specs.Choice.{_>>=_, nope, bind-some}
-use Rattle.fof_tokens.specs.declared.Kind.{Kind}
-use Rattle.fof_tokens.specs.Token.{IsToken, Token}
-use Rattle.fof_tokens.specs.Cuts.{Gap, Piece, Longest, CutsFrom, ends, drops, takes, Cuts}
+use Rattle.basics.specs.Choice.{nope, bind-some}
+use Rattle.fof_tokens.specs.Token.{Token}
+use Rattle.fof_tokens.specs.Cuts.{Longest, CutsFrom, ends, drops, takes, Cuts}
 use Rattle.fof_tokens.specs.Machine.{Sort, gap, token}
 use Rattle.fof_tokens.specs.Next.{pieceAt, adds, withPiece, tokensFrom, tokensAt, tokens}
 use Rattle.fof_tokens.proofs.SortLaws.{Sorted}

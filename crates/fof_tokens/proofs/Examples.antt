@@ -1,6 +1,5 @@
 -- Texts and their tokens, computed: what follows from the rules of the tokens, the longest piece first, and what is no text of tokens.
 use Prim.Native.Nat.{ℕ}
-use Prim.Native.String.{String}
 use mathlib.Core.Path.{_≡_, refl}
 use mathlib.Core.List.{List, [], _∷_, map}
 use mathlib.Core.Option.{Option, none, some}
@@ -13,7 +12,7 @@ use Rattle.fof_tokens.specs.declared.Kind.the-variants.{ForAll, Exists, 
 use Rattle.fof_tokens.specs.Token.{Token}
 use Rattle.fof_tokens.specs.Next.{tokens, tokensAt, tokensFrom, pieceAt}
 use Rattle.fof_tokens.specs.Machine.{scan, soonest}
-use Rattle.fof_tokens.specs.Bytes.{isSpace, isSmall, isCapital, isAlnum, isDigit, isNonzero, isSign, isExponent, isPlain, isEscaped, inLine, anyByte}
+use Rattle.fof_tokens.specs.Bytes.{isSpace, isAlnum, isSign, isExponent, isPlain, isEscaped, inLine}
 
 abbrev pub said : List ℕ → Option (List (Kind × List ℕ))
 said t = tokens t >>= λ ts. some (map (λ (x : Token). (x .kind, x .bytes)) ts)

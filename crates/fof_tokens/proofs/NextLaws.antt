@@ -5,8 +5,8 @@ use mathlib.Core.List.{List, [], _∷_}
 use mathlib.Core.Option.{Option, none, some, Option·some-injective}
 use native.Mathlib.Omega.{arith}
 use lib.ListN.{length, take, drop, length-drop, drop-of-length-le}
-use lib.Seq.{drop-drop, drop-nil}
-use Rattle.basics.specs.Choice.{_>>=_, nope}
+use lib.Seq.{drop-drop}
+use Rattle.basics.specs.Choice.{nope}
 use Rattle.fof_tokens.specs.declared.Kind.{Kind}
 use Rattle.fof_tokens.specs.declared.Lexed.{Lexed}
 use Rattle.fof_tokens.specs.declared.Lexed.the-variants as lexed

@@ -1,17 +1,16 @@
 -- Numbers along a text: digits, a slash, a point, an exponent, a sign.
 use Prim.Native.Nat.{ℕ, _+_, _<_, _≤_}
 use mathlib.Core.Path.{_≡_, refl, sym, _∙_, ap}
-use mathlib.Core.Bool.{Bool, true, false, _&&_, _||_, false≢true, and-false}
+use mathlib.Core.Bool.{Bool, true, false, false≢true}
 use mathlib.Core.List.{List, [], _∷_}
 use mathlib.Core.Option.{Option, none, some}
 use native.Mathlib.Omega.{arith}
-use lib.Dec.{eqb, leb}
+use lib.Dec.{eqb}
 use lib.ListN.{length, drop, getD}
-use borrow.Author.Tests.{leb-true, le-leb, lt-leb, leb-false, eq-eqb, ne-eqb}
-use Rattle.basics.specs.Choice.{both-true}
+use borrow.Author.Tests.{le-leb, ne-eqb}
 use Rattle.fof_tokens.specs.declared.Kind.the-variants as kind
-use Rattle.fof_tokens.specs.Bytes.{within, isDigit, isNonzero, isSign, isExponent}
-use Rattle.fof_tokens.specs.Rule.{Rule, empty, byte, _▸_, many, just, optional}
+use Rattle.fof_tokens.specs.Bytes.{isDigit, isNonzero, isSign, isExponent}
+use Rattle.fof_tokens.specs.Rule.{empty, byte, _▸_, many, just, optional}
 use Rattle.fof_tokens.specs.Token.{digits, positive, exponent}
 use Rattle.fof_tokens.specs.Machine.{Sort, token, Row, step, ended, note, scan}
 use Rattle.fof_tokens.specs.Runs.{span}

@@ -1,23 +1,22 @@
 -- The piece after its first byte, and the piece as a whole.
 use Prim.Native.Nat.{ℕ, _+_, _<_, _≤_}
-use mathlib.Core.Path.{_≡_, refl, sym, _∙_, ap, ap₂, subst}
+use mathlib.Core.Path.{_≡_, refl, sym, _∙_, ap, ap₂}
 use mathlib.Core.Bool.{Bool, true, false}
-use mathlib.Core.List.{List, [], _∷_}
+use mathlib.Core.List.{List, []}
 use mathlib.Core.Option.{Option, none, some}
-use native.Mathlib.Omega.{arith}
 use lib.Dec.{eqb}
-use lib.ListN.{length, drop, getD, drop-of-length-le}
-use borrow.Author.Tests.{eqb-true, eqb-false}
+use lib.ListN.{length, drop, getD}
+use borrow.Author.Tests.{eqb-true}
 use Rattle.basics.specs.Choice.{_>>=_, orElse}
 use Rattle.fof_tokens.specs.declared.Kind.{Kind}
 use Rattle.fof_tokens.specs.declared.Kind.the-variants as kind
 use Rattle.fof_tokens.specs.declared.found.End.{End}
 use Rattle.fof_tokens.specs.declared.first.First.{First}
 use Rattle.fof_tokens.specs.declared.first.First.the-variants as first
-use Rattle.fof_tokens.specs.Bytes.{isSpace, isAlnum, isDigit, isSign, isExponent, isPlain, inLine}
-use Rattle.fof_tokens.specs.Rule.{Rule, never, empty, byte, many}
+use Rattle.fof_tokens.specs.Bytes.{isSpace, isAlnum, isSign, isExponent, isPlain, inLine}
+use Rattle.fof_tokens.specs.Rule.{Rule, never}
 use Rattle.fof_tokens.specs.Cuts.{block}
-use Rattle.fof_tokens.specs.Machine.{mayEnd, after, Sort, gap, token, Row, step, ended, note, scan, soonest}
+use Rattle.fof_tokens.specs.Machine.{after, Sort, gap, token, step, ended, note, scan, soonest}
 use Rattle.fof_tokens.specs.Runs.{span}
 use Rattle.fof_tokens.specs.Next.{table, blockAt, pieceAt}
 use Rattle.fof_tokens.specs.Begins.{commentText, commentStar, inWord, dollars, inQuotes, quoteOpen, unsigned, inDecimal, afterDecimal, oneMore, afterMinus, afterTilde, afterLess, begun, isSlash, Begins, restOf}

@@ -15,14 +15,14 @@ use Rattle.fof_tokens.specs.declared.Kind.{Kind}
 use Rattle.fof_tokens.specs.declared.Kind.the-variants.{Lower, Upper, Quoted, Distinct, Dollar, DoubleDollar, Integer, Rational, Real}
 use Rattle.fof_tokens.specs.declared.Kind.the-variants.{OpenParen, CloseParen, OpenBracket, CloseBracket, OpenBrace, CloseBrace, Comma, Dot, Colon, Minus}
 use Rattle.fof_tokens.specs.declared.Kind.the-variants.{ForAll, Exists, Not, And, Or, Equal, Unequal, Implies, ImpliedBy, Iff, Xor, Nor, Nand, Sequent}
-use Rattle.fof_tokens.specs.Bytes.{isSpace, isSmall, isCapital, isDigit, isNonzero, isSign}
-use Rattle.fof_tokens.specs.Rule.{Rule, _by_}
+use Rattle.fof_tokens.specs.Bytes.{isSpace, isSign}
+use Rattle.fof_tokens.specs.Rule.{_by_}
 use Rattle.fof_tokens.specs.Token.{rule, IsToken}
 use Rattle.fof_tokens.specs.Cuts.{block, Block, Gap, Piece, Longest}
-use Rattle.fof_tokens.specs.Machine.{mayEnd, Sort, gap, token, Row, scan, soonest}
+use Rattle.fof_tokens.specs.Machine.{Sort, gap, token, scan, soonest}
 use Rattle.fof_tokens.specs.Next.{kinds, table, pieceAt}
 use Rattle.fof_tokens.proofs.RuleLaws.{by-end, cons-head, nil-cons}
-use Rattle.fof_tokens.proofs.MachineLaws.{In, step-in, not-ended, Stands, Nothing, Told, scan-told, First, FirstTold, soonest-told}
+use Rattle.fof_tokens.proofs.MachineLaws.{In, step-in, not-ended, Told, scan-told, First, FirstTold, soonest-told}
 use Rattle.fof_tokens.proofs.SortLaws.{Sorted, sorted-once, block-starts}
 
 -- the table has the rule of every kind

@@ -8,7 +8,7 @@ use lib.ListN.{length, drop, getD}
 use borrow.Author.Tests.{eq-eqb, ne-eqb}
 use Rattle.fof_tokens.specs.declared.Kind.{Kind}
 use Rattle.fof_tokens.specs.declared.Kind.the-variants as kind
-use Rattle.fof_tokens.specs.Rule.{Rule, empty, just}
+use Rattle.fof_tokens.specs.Rule.{empty, just}
 use Rattle.fof_tokens.specs.Machine.{Sort, token, Row, step, ended, note, scan}
 use Rattle.fof_tokens.specs.Begins.{oneMore, afterTilde, afterLess}
 use Rattle.fof_tokens.proofs.ScanLaws.{scan-end, halts, goes, inside-text, full}

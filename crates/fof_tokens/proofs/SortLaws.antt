@@ -1,6 +1,6 @@
 -- A byte string is a piece of one sort only: a space or comment, or a token of one kind. `sortOf` tells which, from the first bytes and, in a number, from `/`, `.`, `E` and `e`.
 use Prim.Native.Nat.{ℕ, _<_, _≤_}
-use mathlib.Core.Path.{_≡_, refl, sym, _∙_, ap, subst}
+use mathlib.Core.Path.{_≡_, refl, sym, _∙_, ap}
 use mathlib.Core.Bool.{Bool, true, false, _&&_, _||_, not, false≢true, or-assoc, and-false}
 use mathlib.Core.List.{List, [], _∷_, _++_}
 use mathlib.Core.Logic.{_⊎_, inl, inr, ⊎-elim}
@@ -13,10 +13,10 @@ use Rattle.fof_tokens.specs.declared.Kind.{Kind}
 use Rattle.fof_tokens.specs.declared.Kind.the-variants.{Lower, Upper, Quoted, Distinct, Dollar, DoubleDollar, Integer, Rational, Real}
 use Rattle.fof_tokens.specs.declared.Kind.the-variants.{OpenParen, CloseParen, OpenBracket, CloseBracket, OpenBrace, CloseBrace, Comma, Dot, Colon, Minus}
 use Rattle.fof_tokens.specs.declared.Kind.the-variants.{ForAll, Exists, Not, And, Or, Equal, Unequal, Implies, ImpliedBy, Iff, Xor, Nor, Nand, Sequent}
-use Rattle.fof_tokens.specs.Bytes.{within, isSpace, isSmall, isCapital, isAlnum, isDigit, isNonzero, isSign, isExponent, isPlain, isEscaped, inLine}
+use Rattle.fof_tokens.specs.Bytes.{within, isSpace, isSmall, isCapital, isAlnum, isDigit, isNonzero, isSign, isExponent, inLine}
 use Rattle.fof_tokens.specs.Rule.{Rule, never, empty, byte, _▸_, _∣_, many, Many, done, more, _by_, just, text, optional}
-use Rattle.fof_tokens.specs.Token.{lowerWord, character, sign, positive, decimal, fraction, exponent, real, rule, IsToken}
-use Rattle.fof_tokens.specs.Cuts.{block, Block, Gap}
+use Rattle.fof_tokens.specs.Token.{lowerWord, character, sign, positive, decimal, fraction, exponent, real, IsToken}
+use Rattle.fof_tokens.specs.Cuts.{block, Gap}
 use Rattle.fof_tokens.specs.Machine.{Sort, gap, token}
 use Rattle.fof_tokens.proofs.RuleLaws.{or-true, or-too, true-or}
 

@@ -2,7 +2,7 @@
 use Prim.Native.Nat.{ℕ}
 use mathlib.Core.Path.{_≡_}
 use mathlib.Core.Bool.{Bool, true, false, _||_}
-use mathlib.Core.List.{List, [], _∷_, _++_}
+use mathlib.Core.List.{List, [], _∷_}
 use mathlib.Core.Option.{Option, none, some}
 use lib.Dec.{eqb}
 use Rattle.basics.specs.Choice.{_>>=_}
@@ -11,7 +11,7 @@ use Rattle.fof_tokens.specs.declared.Kind.{Kind}
 use Rattle.fof_tokens.specs.declared.Kind.the-variants as kind
 use Rattle.fof_tokens.specs.declared.first.First.{First}
 use Rattle.fof_tokens.specs.declared.first.First.the-variants as first
-use Rattle.fof_tokens.specs.Bytes.{isSpace, isSmall, isCapital, isAlnum, isDigit, isNonzero, isSign, inLine, anyByte}
+use Rattle.fof_tokens.specs.Bytes.{isAlnum, isDigit, isNonzero, inLine, anyByte}
 use Rattle.fof_tokens.specs.Rule.{Rule, empty, byte, _▸_, _∣_, many, just, text, optional}
 use Rattle.fof_tokens.specs.Token.{lowerWord, character, sign, digits, positive, decimal, fraction, exponent}
 use Rattle.fof_tokens.specs.Machine.{Sort, gap, token, Row, step, scan, soonest}

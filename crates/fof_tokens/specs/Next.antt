@@ -10,7 +10,6 @@ use Rattle.fof_tokens.specs.declared.Kind.the-variants.{OpenParen, Close
 use Rattle.fof_tokens.specs.declared.Kind.the-variants.{ForAll, Exists, Not, And, Or, Equal, Unequal, Implies, ImpliedBy, Iff, Xor, Nor, Nand, Sequent}
 use Rattle.fof_tokens.specs.declared.Lexed.{Lexed}
 use Rattle.fof_tokens.specs.declared.Lexed.the-variants as lexed
-use Rattle.fof_tokens.specs.Rule.{Rule}
 use Rattle.fof_tokens.specs.Token.{rule, Token}
 use Rattle.fof_tokens.specs.Cuts.{space, lineComment, block}
 use Rattle.fof_tokens.specs.Machine.{Sort, gap, token, Row, scan, soonest}

@@ -45,7 +45,3 @@ text (b ∷ c ∷ w) = just b ▸ text (c ∷ w)
 -- one or nothing
 abbrev pub optional : Rule → Rule
 optional r = r ∣ empty
-
--- one or more
-abbrev pub some : Rule → Rule
-some r = r ▸ many r

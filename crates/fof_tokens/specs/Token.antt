@@ -7,8 +7,8 @@ use Rattle.fof_tokens.specs.declared.Kind.{Kind}
 use Rattle.fof_tokens.specs.declared.Kind.the-variants.{Lower, Upper, Quoted, Distinct, Dollar, DoubleDollar, Integer, Rational, Real}
 use Rattle.fof_tokens.specs.declared.Kind.the-variants.{OpenParen, CloseParen, OpenBracket, CloseBracket, OpenBrace, CloseBrace, Comma, Dot, Colon, Minus}
 use Rattle.fof_tokens.specs.declared.Kind.the-variants.{ForAll, Exists, Not, And, Or, Equal, Unequal, Implies, ImpliedBy, Iff, Xor, Nor, Nand, Sequent}
-use Rattle.fof_tokens.specs.Bytes.{isSpace, isSmall, isCapital, isAlnum, isDigit, isNonzero, isSign, isExponent, isPlain, isEscaped, inLine, anyByte}
-use Rattle.fof_tokens.specs.Rule.{Rule, empty, byte, _▸_, _∣_, many, just, text, optional, some, _by_}
+use Rattle.fof_tokens.specs.Bytes.{isSmall, isCapital, isAlnum, isDigit, isNonzero, isSign, isExponent, isPlain, isEscaped}
+use Rattle.fof_tokens.specs.Rule.{Rule, byte, _▸_, _∣_, many, just, text, optional, _by_}
 
 -- words
 abbrev pub lowerWord : Rule

@@ -1,5 +1,4 @@
 -- `shuts` (src/gaps.rt): its two tests, one after the other.
-use mathlib.Core.Path.{sym, _∙_}
 use Rattle.fof_tokens.proofs.ScanLaws.{known}
 use Rattle.fof_tokens.proofs.GapLaws.{shuts-first, shuts-second}
 use native.Mathlib.Omega.{arith}

@@ -1,5 +1,5 @@
 -- `exponent_end` (src/numbers.rt): the letter is there or not.
-use mathlib.Core.Path.{refl, sym, _∙_, ap}
+use mathlib.Core.Path.{sym, _∙_, ap}
 use borrow.Author.Tests.{not-true, not-false}
 use Rattle.fof_tokens.specs.Bytes.{isExponent}
 use Rattle.fof_tokens.proofs.NumberLaws.{exponent-in-text, exponent-none, exponent-more}

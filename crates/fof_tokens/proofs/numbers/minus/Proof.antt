@@ -1,5 +1,5 @@
 -- `minus` (src/numbers.rt): each answer is one law of NumberLaws.
-use mathlib.Core.Path.{refl, sym, _∙_, ap}
+use mathlib.Core.Path.{sym, _∙_, ap}
 use mathlib.Core.Option.{none}
 use Rattle.fof_tokens.specs.Bytes.{isDigit}
 use Rattle.fof_tokens.specs.Begins.{afterMinus}

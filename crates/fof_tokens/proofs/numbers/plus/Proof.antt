@@ -1,5 +1,5 @@
 -- `plus` (src/numbers.rt): a digit comes or not.
-use mathlib.Core.Path.{refl, sym, _∙_, ap}
+use mathlib.Core.Path.{sym, _∙_, ap}
 use borrow.Author.Tests.{not-true, not-false}
 use mathlib.Core.Option.{none}
 use Rattle.fof_tokens.specs.Bytes.{isDigit}

@@ -1,6 +1,5 @@
 -- `in_class` (src/run.rt): the test of each class.
-use mathlib.Core.Path.{_≡_, sym, _∙_, ap}
-use Prim.Native.Nat.{ℕ}
+use mathlib.Core.Path.{sym, _∙_, ap}
 use Rattle.fof_tokens.specs.declared.run.Class.{Class}
 use Rattle.fof_tokens.specs.Runs.{passes}
 use Rattle.fof_tokens.specs.Bytes.{inLine}
