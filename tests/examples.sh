@@ -8,15 +8,22 @@ wrong=0 asked=0
 rt staticlib desk > "$room/log" 2>&1 || { cat "$room/log"; exit 1; }
 [ "$(uname -m)" = x86_64 ] || { echo 'the archive is for x86-64, and this machine is not: the examples are skipped'; exit 0; }
 
-# Asks the example for all the verdicts that packets/ asks.
+# Asks the example all that packets/ asks; it prints a strip that is found after the line.
 ask_all() { # EXAMPLE
   for expected in packets/*/expected packets/*/*/expected; do
     folder=${expected%/expected}
     while IFS= read -r row <&3; do
       question=${row%%:*} line=${row#*: }
-      [ "$question" = judge ] || continue
+      case $line in
+        found*)
+          line="$line
+$(cat "$folder/strip.sx")"
+          ;;
+      esac
+      words=${question#judge}
       asked=$((asked + 1))
-      got=$("$1" "$folder") || [ $? -eq 1 ] || got='no answer'
+      # shellcheck disable=SC2086
+      got=$("$1" "$folder" ${words#search }) || [ $? -eq 1 ] || got='no answer'
       [ "$got" = "$line" ] || { echo "${1##*/}, $folder, $question: expected '$line', and it says '$got'"; wrong=$((wrong + 1)); }
     done 3< "$expected"
   done

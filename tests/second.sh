@@ -16,10 +16,12 @@ stored() {
   "$second" "$2-answers" < "../crates/$1/data/cases" | cmp - "../crates/$1/stdout"
 }
 
-# The same where the cases are in two parts.
-stored_parts() {
-  for part in 1 2; do "$second" "$2-cases" "$part" | cmp - "../crates/$1/data/cases$part"; done
-  for part in 1 2; do "$second" "$2-answers" < "../crates/$1/data/cases$part"; done | cmp - "../crates/$1/stdout"
+# The same where the cases are in parts.
+stored_parts() { # PROGRAM KIND PART..
+  program=$1 kind=$2
+  shift 2
+  for part; do "$second" "$kind-cases" "$part" | cmp - "../crates/$program/data/cases$part"; done
+  for part; do "$second" "$kind-answers" < "../crates/$program/data/cases$part"; done | cmp - "../crates/$program/stdout"
 }
 
 # The same where each part is stored in two files, one after the other.
@@ -34,9 +36,10 @@ stored_halves() {
 "$second" carrier-cases | "$second" carrier-counts
 { "$second" packet-cases 1; "$second" packet-cases 2; } | "$second" packet-counts
 { "$second" judge-cases 1; "$second" judge-cases 2; } | "$second" judge-counts
-"$second" search-cases | "$second" search-counts
+for part in 1 2 3; do "$second" search-cases "$part"; done | "$second" search-counts
 for part in 1 2 3 4; do "$second" tptp-cases "$part"; done | "$second" tptp-counts
 
 stored carrier_cases carrier
-stored_parts packet_cases packet
+stored_parts packet_cases packet 1 2
 stored_halves judge_cases judge
+stored_parts search_cases search 1 2 3

@@ -33,7 +33,7 @@ fn run(words: &[String]) -> Result<Vec<u8>, String> {
         "judge-cases" => Ok(make::judging::cases(part(words, make::judging::PARTS)?)),
         "judge-answers" => answers::judged(&input()?, places(words)).map(lines),
         "judge-counts" => counts(answers::judge_counts(&input()?)?),
-        "search-cases" => Ok(make::searching::cases()),
+        "search-cases" => Ok(make::searching::cases(part(words, make::searching::PARTS)?)),
         "search-answers" => answers::searched(&input()?, places(words)).map(lines),
         "search-counts" => counts(answers::search_counts(&input()?)?),
         "tptp-cases" => Ok(make::tptp::cases(part(words, make::tptp::PARTS)?)),

@@ -96,7 +96,7 @@ fn the_first_and_not_the_shortest() {
 /// Each strip found is accepted, with the same height and nodes.
 #[test]
 fn what_is_found_is_accepted() {
-    let bytes = second::make::searching::cases();
+    let bytes: Vec<u8> = (1..=second::make::searching::PARTS).flat_map(second::make::searching::cases).collect();
     for case in second::batch::cases(&bytes, 5).unwrap() {
         let files = Files { rules: case[0], goal: case[1], terms: case[2] };
         let height = second::batch::number(case[3]).unwrap();

@@ -13,8 +13,28 @@ const LOOKS: u64 = 2_000;
 /// The three files that a search reads.
 pub type Three = [Vec<u8>; 3];
 
-/// The case file: for each case the three files, the height and the buffer's size.
-pub fn cases() -> Vec<u8> {
+/// The number of case files.
+pub const PARTS: usize = 3;
+
+/// A case: the three files, the height and the buffer's size.
+type Case = Vec<u8>;
+
+/// One of the case files, from 1 on: the cases in order, cut so that each file has about as many bytes.
+pub fn cases(part: usize) -> Vec<u8> {
+    let all = all();
+    let whole: usize = all.iter().map(Vec::len).sum();
+    let mut before = 0;
+    let mut out = Vec::new();
+    for case in all {
+        if before * PARTS / whole + 1 == part {
+            out.extend_from_slice(&case);
+        }
+        before += case.len();
+    }
+    out
+}
+
+fn all() -> Vec<Case> {
     let mut out = Vec::new();
     for (files, height, size) in wanted::searches() {
         case(&mut out, &files, height, size);
@@ -23,13 +43,15 @@ pub fn cases() -> Vec<u8> {
     out
 }
 
-fn case(out: &mut Vec<u8>, files: &Three, height: usize, size: usize) {
-    files.iter().for_each(|file| put(out, file));
-    put(out, height.to_string().as_bytes());
-    put(out, size.to_string().as_bytes());
+fn case(out: &mut Vec<Case>, files: &Three, height: usize, size: usize) {
+    let mut case = Vec::new();
+    files.iter().for_each(|file| put(&mut case, file));
+    put(&mut case, height.to_string().as_bytes());
+    put(&mut case, size.to_string().as_bytes());
+    out.push(case);
 }
 
-fn by_chance(out: &mut Vec<u8>) {
+fn by_chance(out: &mut Vec<Case>) {
     let mut chance = Chance::new(7);
     let mut made = 0;
     while made < 600 {
@@ -54,7 +76,7 @@ fn by_chance(out: &mut Vec<u8>) {
 }
 
 /// Cases around the height of a strip and around the first strip's length, unless they take too many looks.
-fn around(out: &mut Vec<u8>, chance: &mut Chance, files: &Three, height: usize) {
+fn around(out: &mut Vec<Case>, chance: &mut Chance, files: &Three, height: usize) {
     let most = *chance.of(&[0, 1, 3, 5, 8, 31, 32, 32, 32, 33, 64]);
     for height in [height - 1, height, height + 1, most] {
         if height == most || !chance.once_in(3) {
@@ -63,7 +85,7 @@ fn around(out: &mut Vec<u8>, chance: &mut Chance, files: &Three, height: usize) 
     }
 }
 
-fn sizes(out: &mut Vec<u8>, chance: &mut Chance, files: &Three, height: usize) {
+fn sizes(out: &mut Vec<Case>, chance: &mut Chance, files: &Three, height: usize) {
     let three = Files { rules: &files[0], goal: &files[1], terms: &files[2] };
     match search(three, height, usize::MAX, ROOM, LOOKS) {
         Err(_) => {}
