@@ -4,4 +4,6 @@ pub mod ReadyLaws
 pub mod HandLaws
 pub mod ProvingLaws
 pub mod HeadlessLaws
+pub mod AlikeLaws
+pub mod ForcingLaws
 pub mod PassingLaws

@@ -3,16 +3,16 @@
 use Prim.Native.Nat.{ℕ, suc, _+_, _-_, _≤_, _<_}
 use native.Mathlib.Omega.{arith}
 use mathlib.Core.Path.{_≡_, refl, sym, _∙_, ap, ap₂, subst}
-use mathlib.Core.Bool.{Bool, true, false, _&&_}
+use mathlib.Core.Bool.{Bool, true, false, _&&_, false≢true}
 use mathlib.Core.List.{List, _∷_}
-use mathlib.Core.Option.{Option}
+use mathlib.Core.Option.{Option, some}
 use lib.Dec.{ltb, leb}
-use lib.ListN.{length, getD, drop, set, length-set}
+use lib.ListN.{length, getD, getElem?, drop, set, length-set}
 use Rattle.basics.specs.Choice.{maybe}
 use Rattle.basics.specs.Text.{octets}
 use Rattle.harrop.specs.declared.Binding.the-variants.{Candidate}
 use Rattle.harrop.specs.Formula.{Term, Atom, Goal, Clause}
-use Rattle.harrop.specs.Bindings.{Bindings, replacedAtom, sameAtom}
+use Rattle.harrop.specs.Bindings.{Bindings, nothing, replacedAtom, sameAtom}
 use Rattle.harrop.specs.Place.{AtHand, Hand, Plain, listed}
 use Rattle.sexp.specs.declared.skip.After.{After}
 use Rattle.sexp.specs.declared.skip.After.the-variants as A
@@ -25,16 +25,17 @@ use Rattle.packet.specs.declared.Kind.the-variants as K
 use Rattle.packet.specs.declared.table.Row.the-variants as R
 use Rattle.packet.specs.Rows.{rowOf}
 use Rattle.packet.specs.Table.{dueAfter}
-use Rattle.packet.specs.Barred.{goalOk, atomOk, clauseOk}
+use Rattle.packet.specs.Barred.{termOk, goalOk, atomOk, clauseOk}
 use Rattle.packet.specs.Written.{goalSexp, clauseSexp}
 use Rattle.room.specs.Layout.{candidatesWord, highestWord}
 use Rattle.room.specs.Frame.{bindingWord, held, bindingsIn}
+use Rattle.room.specs.Table.{CandidatesIn}
 use Rattle.room.specs.Term.{SameAtoms}
 use Rattle.room.specs.Where.{Files, Kept, Framed, plus, further}
 use Rattle.room.specs.declared.Spot.{Spot}
 use Rattle.room.specs.declared.Where.{Where}
 use Rattle.room.proofs.AtomLaws.{same-there}
-use Rattle.room.proofs.FrameLaws.{frame-pushed}
+use Rattle.room.proofs.FrameLaws.{frame-pushed, frame-length}
 use Rattle.room.proofs.NestLaws.{clause-nests}
 use Rattle.room.proofs.WhereLaws.{kept-then, kept-less, framed-kept, file-small, plus-inside, push-keeps}
 use Rattle.room.proofs.MoveLaws.{hand-higher}
@@ -44,7 +45,11 @@ use Rattle.provable.specs.Proving.{Ready, Taken, Answers, Proving, Provi
 use Rattle.provable.specs.declared.Chosen.{Chosen}
 use Rattle.provable.specs.declared.Chosen.the-variants as C
 use Rattle.heads.specs.Predicate.{HasHead}
+use Rattle.force.specs.declared.Forced.{Forced}
+use Rattle.force.specs.declared.Forced.the-variants as F
+use Rattle.force.specs.Forced.{byHead, AtomIn, ClauseIn, ByHead}
 use Rattle.provable.proofs.HeadlessLaws.{headless}
+use Rattle.provable.proofs.ForcingLaws.{only-forced}
 use Rattle.provable.proofs.WalkLaws.{any-here, any-none}
 use Rattle.heads.proofs.HeadLaws.{clause-says, clause-is, clause-has-row, heads, first-part, second-found, first-found}
 use Rattle.provable.proofs.ReadyLaws.{may-be, allowed-below, ready-kept}
@@ -133,6 +138,35 @@ ready-body {f} {room} {ds} {us} {w} {x} t n g h l ok =
           };
       long = t .ready .long;
     }
+
+-- the clause below an `all`, and the atom, as the look at the head asks for them
+module _ {f : Files} {room : List ℕ} {ds : List (Clause Plain)} {us : List Term} {w : Where} {x : Spot} {left : ℕ} {o : List Plain} {c : Hand Plain} {bs : Bindings} {a : Atom} {q : Plain} {d : Clause Plain} {bs′ : Bindings} (t : Taken f room ds us w x left o c bs a (Clause.allD q d) bs′) where
+  below-clause : ClauseIn f (further x 6) (suc (length bs′)) d
+  below-clause =
+      let st = first-part (octets "all") (heads .1 .1 .1 .0) (t .framed .stands) in
+      let small = file-small (t .ready .place .booked) (x .source) in
+      let many = ap length (sym (t .framed .holds)) ∙ frame-length room (x .base) (x .count) in
+      record {
+        stands = subst (λ (i : ℕ). Stands (bytesAt f x) i (clauseSexp d)) (sym (plus-inside (bytesAt f x) (x .at) 6 small st)) st;
+        shallow = omega (arith, t .framed .shallow, many);
+        small = small;
+        scoped = t .scoped;
+      }
+
+  asked-atom : AtomIn f (w .goal) (length bs) a
+  asked-atom =
+      let place = t .ready .place in
+      let many = ap length (sym (place .framed .holds)) ∙ frame-length room (w .goal .base) (w .goal .count) in
+      record {
+        stands = place .framed .stands;
+        shallow = omega (arith, place .framed .shallow, many);
+        small = file-small (place .booked) (w .goal .source);
+        scoped = place .scoped;
+      }
+
+-- no candidate is `e` 0
+no-stand-in : {room terms : List ℕ} {us : List Term} → CandidatesIn room terms us → (i : ℕ) (t : Term) → getElem? us i ≡ some t → t ≡ nothing → ⊥
+no-stand-in C i t e z = false≢true (subst (λ (u : Term). termOk true 0 u ≡ true) z (C .closed i t e))
 
 -- what is claimed of a clause
 abbrev Claim : Files → List ℕ → List ℕ → List (Clause Plain) → List Term → Where → Spot → ℕ → ℕ → List Plain → Hand Plain → Bindings → Atom → Bindings → Bool → Clause Plain → Type 0
@@ -262,6 +296,18 @@ module _ {f : Files} {room : List ℕ} {w : Where} {x : Spot} {left : ℕ} where
         kept = kept-then room (set room (plus (x .base) (x .count)) v) after (omega arith) (omega (arith, t .framed .shallow)) (push-kept t v) (y .kept);
         answer = and-yes m n (y .answer);
       }
+
+  -- the head forces candidate i: it decides for all
+  pub all-forced : {after : List ℕ} {y : Spot} {r : Forced} {i : ℕ} {s : Bool} (nest : ℕ) → y ≡ further x 6 → ByHead f room y (w .goal) 0 nest r → r ≡ F.Candidate i → PassingWith f room after w x i nest left s → PassingAs W.All f room after w x nest left s
+  all-forced {after} {r = r} {i = i} {s = s} nest j k e p ds us o c bs a d bs′ h =
+      let (q, y, u) = clause-is d h in
+      subst (Claim f room after ds us w x (suc nest) left o c bs a bs′ s) (sym u)
+      (λ lo t.
+      let m = p ds us o c bs a q y bs′ lo t in
+      let place = t .ready .place in
+      let b = subst (λ (z : Spot). ByHead f room z (w .goal) 0 nest r) j k (suc (length bs′)) (length bs) y a (omega arith) (omega arith) (below-clause t) (asked-atom t) in
+      let forced = ap (λ (z : Bindings). byHead 0 z y a) (sym (place .framed .holds)) ∙ sym b ∙ e in
+      record { kept = m .kept; answer = m .answer ∙ sym (only-forced (listed us) o q left c bs a y bs′ i (no-stand-in (place .booked .candidates)) forced) })
 
   -- the candidates one after the other
   pub all-start : (nest : ℕ) → AllLeft f room w x nest left room 0

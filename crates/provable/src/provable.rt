@@ -5,6 +5,8 @@ use crate::hand::candidates;
 use crate::hand::clauses;
 use crate::hand::deeper;
 use crate::hand::open_clause;
+use force::Forced;
+use force::by_head;
 use harrop::Binding;
 use heads::has_head;
 use packet::Word;
@@ -291,8 +293,27 @@ fn through_and<'a>(
     through(rules, goal, terms, room, w, further(x, n), nest, left)
 }
 
-// The clause of an `all`, with the first candidate for which a path through it ends well.
+// The clause of an `all`: the head decides before candidates are tried. Where it forces one on the variable, no other is tried (document 02, Three).
 fn through_all<'a>(
+    rules: &'a [u8],
+    goal: &'a [u8],
+    terms: &'a [u8],
+    room: &mut [u32],
+    w: Where,
+    x: Spot,
+    nest: usize,
+    left: usize,
+) -> bool
+    ensures { λ r. ⌜ PassingAs W.All (filesOf (now (rules .entry)) (now (goal .entry)) (now (terms .entry))) (now (room .entry)) (now (room .exit)) w x nest left r ⌝ }
+{
+    match by_head(rules, goal, terms, room, further(x, 6), w.goal, 0, nest) {
+        Forced::Candidate(i) => through_with(rules, goal, terms, room, w, x, i, nest, left),
+        Forced::Nothing => through_each(rules, goal, terms, room, w, x, nest, left),
+    }
+}
+
+// The clause of an `all`, with the first candidate for which a path through it ends well.
+fn through_each<'a>(
     rules: &'a [u8],
     goal: &'a [u8],
     terms: &'a [u8],
