@@ -34,7 +34,7 @@ use Rattle.fof_part.proofs.TakenLaws.{implied-of, quantified-of, true-o
 use Rattle.fof_part.proofs.WriteLaws.{Writes, writes-none, writes-step, writes-then, writes-as, due-variable-term, due-function, due-terms-end, due-terms-more, due-arguments, due-no-arguments, due-shut, due-atom, due-parens, due-close, quantifierSign, due-quantifier, due-list, due-variable, due-behind-more, due-behind-end, due-over, due-leave, due-chain, due-lone, due-linked, due-more, due-no-more, due-arrow, due-true}
 
 -- signs that do not go on with arguments
-abbrev NoOpens : List Sign → Type 0
+abbrev pub NoOpens : List Sign → Type 0
 NoOpens k = taking opensCode k ≡ none
 
 shut-writes : (sc : Scope) (k : List Sign) → Writes (Due.shut ∷ []) sc k (Mark.end ∷ []) sc k
@@ -275,7 +275,7 @@ unfolding linesFrom
 lines-end zero = refl
 lines-end (suc f) = refl
 
-line-shorter : {l : Line} {w : List Sign} → LineSpelt l w → (v : List Sign) (f : ℕ) → length (w ++ v) ≤ f → suc (length v) ≤ f
+pub line-shorter : {l : Line} {w : List Sign} → LineSpelt l w → (v : List Sign) (f : ℕ) → length (w ++ v) ≤ f → suc (length v) ≤ f
 line-shorter (LineSpelt.line {w = w} g) v f h =
     let e = length-append (w ++ (Sign.closes ∷ Sign.dot ∷ [])) v in
     omega arith

@@ -9,5 +9,6 @@ pub mod SoundLaws
 pub mod TakenLaws
 pub mod WriteLaws
 pub mod CompleteLaws
+pub mod OnceLaws
 pub mod ExactLaws
 pub mod Cases
