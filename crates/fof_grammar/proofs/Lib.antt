@@ -8,3 +8,4 @@ pub mod Tables
 pub mod StackLaws
 pub mod AheadLaws
 pub mod Running
+pub mod ReadLaws

@@ -5,3 +5,4 @@ pub mod Grammar
 pub mod Decided
 pub mod Sound
 pub mod Coded
+pub mod Read

@@ -1,9 +1,11 @@
 -- Which texts are `fof` lines (document 02, request One: "12 where TPTP's published grammar does not allow it"): those that can be cut into tokens that the grammar derives from `file`.
 -- Anything else is refusal 12. `sound` computes it; that it says the same is proofs/Soundly. A text's length, refusal 1, is not looked at here.
 use Prim.Native.Nat.{ℕ}
-use mathlib.Core.Bool.{Bool, true, false}
+use mathlib.Core.Bool.{Bool, true, false, _&&_}
 use mathlib.Core.List.{List, [], _∷_, map}
 use mathlib.Core.Option.{Option, none, some}
+use lib.Dec.{leb}
+use lib.ListN.{length}
 use Rattle.fof_tokens.specs.Token.{Token}
 use Rattle.fof_tokens.specs.Cuts.{Cuts}
 use Rattle.fof_tokens.specs.Next.{tokens}
@@ -28,3 +30,7 @@ soundTokens (some ts) = accepts decided file (map terminalOf ts)
 
 unfoldable pub sound : List ℕ → Bool
 sound text = soundTokens (tokens text)
+
+-- and short enough: a text of more than 16,384 bytes is refused before, with 1
+unfoldable pub soundBook : List ℕ → Bool
+soundBook text = leb (length text) 16384 && sound text

@@ -1,13 +1,13 @@
 -- The tokens as the grammar of `fof` lines sees them (document 02, request One): one for each sign and each kind of token,
 -- and one for each word that a production names. Those four words are told by their bytes; every other word is just a word.
 use Prim.Native.Nat.{ℕ}
-use mathlib.Core.Bool.{Bool, true, false}
-use mathlib.Core.List.{List, [], _∷_}
+use mathlib.Core.Bool.{Bool}
+use mathlib.Core.List.{List}
 use Rattle.basics.specs.Choice.{choose}
 use Rattle.basics.specs.Text.{octets}
+use Rattle.harrop.specs.Bindings.{sameName}
 use Rattle.fof_tokens.specs.declared.Kind.{Kind}
 use Rattle.fof_tokens.specs.declared.Kind.the-variants as K
-use lib.Dec.{eqb}
 
 pub data Terminal : Type 0 where
   'fof' : Terminal
@@ -48,11 +48,9 @@ pub data Terminal : Type 0 where
   '~&' : Terminal
   '-->' : Terminal
 
+-- the same bytes
 abbrev pub sameOctets : List ℕ → List ℕ → Bool
-sameOctets [] [] = true
-sameOctets [] (b ∷ v) = false
-sameOctets (a ∷ u) [] = false
-sameOctets (a ∷ u) (b ∷ v) = choose (eqb a b) (sameOctets u v) false
+sameOctets u v = sameName u v
 
 -- what a token of a kind with these bytes is
 abbrev pub terminal : Kind → List ℕ → Terminal
