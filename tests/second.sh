@@ -36,7 +36,7 @@ stored_halves() {
 "$second" carrier-cases | "$second" carrier-counts
 { "$second" packet-cases 1; "$second" packet-cases 2; } | "$second" packet-counts
 { "$second" judge-cases 1; "$second" judge-cases 2; } | "$second" judge-counts
-for part in 1 2 3; do "$second" search-cases "$part"; done | "$second" search-counts
+for part in 1 2 3 4; do "$second" search-cases "$part"; done | "$second" search-counts
 for part in 1 2 3 4; do "$second" tptp-cases "$part"; done | "$second" tptp-counts
 
 stored carrier_cases carrier

@@ -1,5 +1,6 @@
 //! Search cases that have a name: document 01's cases 3, 4, 9, 10 and 12, "Which strip the search writes", heights that
-//! are just enough, loops that end at the height, and strips of just 16,384 bytes and one more.
+//! are just enough, loops that end at the height, heads under `and` and `all`, clauses supposed twice, and strips of just
+//! 16,384 bytes and one more.
 
 use crate::expression::plain;
 use crate::make::packets::{base, KINDS};
@@ -22,6 +23,11 @@ fn b() -> Three {
 
 pub fn searches() -> Vec<Asked> {
     [of_document_01(), refused(), first(), heights(), loops(), candidates(), long()].concat()
+}
+
+/// Those in which a clause's head decides which candidates there are to try (document 02, Three).
+pub fn matched() -> Vec<Asked> {
+    [heads(), supposed()].concat()
 }
 
 /// One packet at several heights, each with the whole buffer.
@@ -198,6 +204,64 @@ fn candidates() -> Vec<Asked> {
     for n in [0, 9, 10, 99, 100, 255] {
         all.extend(at(&files(&format!("(rules (atom r (f c{n})))"), "(some (atom r (v 0)))", &terms), [2]));
         all.extend(at(&files("(rules (all (atom r (v 0))))", &format!("(atom r (f c{n}))"), &terms), [1]));
+    }
+    all
+}
+
+/// Clauses with `and` and `all` in every order, for atoms whose variables stand for candidates and parameters, among
+/// candidates that are listed twice or are a parameter themselves.
+fn heads() -> Vec<Asked> {
+    let swap = ("(atom s (v 0) (v 1))", "(imp (atom s (v 0) (v 1)) (atom t (v 1) (v 0)))");
+    let pairs = [
+        swap,
+        (swap.1, swap.0),
+        ("(atom s (v 0) (v 0))", "(atom s (v 1) (f a))"),
+        ("(imp (atom r (v 0)) (atom s (v 1) (f a)))", "(atom s (v 1) (v 0))"),
+        ("(imp (atom r (v 1)) (atom t (v 0) (v 0)))", "(imp (atom t (v 1) (v 1)) (atom s (v 0) (v 1)))"),
+    ];
+    let mut all = Vec::new();
+    for (one, two) in pairs {
+        for clause in [
+            format!("(all (all (and {one} {two})))"),
+            format!("(all (and (all {one}) (all {two})))"),
+            format!("(and (all (all {one})) (all (all {two})))"),
+            format!("(all (all {one})) (all (all {two}))"),
+        ] {
+            let rules = format!("(rules {clause} (atom r (f a)) (atom d (f b) (f a)))");
+            for (goal, least) in [
+                ("(some (some (and (atom d (v 1) (v 0)) (atom s (v 1) (v 0)))))", 4),
+                ("(some (some (and (atom d (v 1) (v 0)) (atom s (v 0) (v 1)))))", 4),
+                ("(some (some (and (atom d (v 1) (v 0)) (atom t (v 0) (v 1)))))", 5),
+                ("(all (some (atom s (v 0) (v 1))))", 3),
+                ("(all (some (imp (atom r (v 0)) (some (atom t (v 1) (v 0))))))", 5),
+            ] {
+                for terms in ["(terms (f b) (f a) (f b))", "(terms (e 1) (f a) (e 1) (f b))"] {
+                    all.extend(at(&files(&rules, goal, terms), [least - 1, least, least + 1]));
+                }
+            }
+        }
+    }
+    all
+}
+
+/// The same clause supposed twice: the first of the two is used.
+fn supposed() -> Vec<Asked> {
+    let mut all = Vec::new();
+    for (clause, goal) in [
+        ("(atom p)", "(atom p)"),
+        ("(atom r (v 0))", "(some (atom r (v 0)))"),
+        ("(imp (atom r (v 0)) (atom p))", "(imp (atom r (v 0)) (atom p))"),
+        ("(all (imp (atom r (v 0)) (atom s (v 0) (v 1))))", "(imp (atom r (v 0)) (some (some (atom s (v 0) (v 1)))))"),
+        ("(all (and (atom s (v 0) (v 1)) (atom s (v 1) (v 0))))", "(some (atom s (v 1) (v 0)))"),
+    ] {
+        for around in ["all", "some"] {
+            let packet = files(
+                "(rules)",
+                &format!("({around} (imp {clause} (imp {clause} {goal})))"),
+                "(terms (f a) (e 1) (f a))",
+            );
+            all.extend(at(&packet, 3..=8));
+        }
     }
     all
 }
