@@ -42,4 +42,4 @@ for part in 1 2 3 4; do "$second" tptp-cases "$part"; done | "$second" tptp-coun
 stored carrier_cases carrier
 stored_parts packet_cases packet 1 2
 stored_halves judge_cases judge
-stored_parts search_cases search 1 2 3
+stored_parts search_cases search 1 2 3 4

@@ -1,4 +1,4 @@
-// Searches for every case of three files of search cases (second/README.md: rules, goal, terms, height and size, each a string) and prints one line for each. What is found is
+// Searches for every case of four files of search cases (second/README.md: rules, goal, terms, height and size, each a string) and prints one line for each. What is found is
 // judged as well; a line says more than is expected if it is not accepted, with the same height and nodes. The cases and the lines that are expected come from the second program alone.
 use judge::Verdict;
 use programs::load;
@@ -147,4 +147,6 @@ fn main() {
     cases(&buf[..l]);
     let m = load(b"cases3", &mut buf);
     cases(&buf[..m]);
+    let n = load(b"cases4", &mut buf);
+    cases(&buf[..n]);
 }
