@@ -11,4 +11,5 @@ pub mod WriteLaws
 pub mod CompleteLaws
 pub mod OnceLaws
 pub mod ExactLaws
+pub mod MadeLaws
 pub mod Cases

@@ -4,4 +4,5 @@ pub mod Mark
 pub mod Due
 pub mod Lines
 pub mod Files
+pub mod Made
 pub mod Cases
