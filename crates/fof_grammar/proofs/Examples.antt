@@ -5,7 +5,6 @@ use mathlib.Core.Path.{_≡_, refl}
 use mathlib.Core.Bool.{Bool, true, false, Bool·beq}
 use mathlib.Core.List.{List, [], _∷_, _++_}
 use Prim.Native.Nat.{ℕ}
-use lib.ListN.{length, replicate}
 use Rattle.basics.specs.Text.{octets}
 use Rattle.fof_tokens.specs.Bytes.{isSpace, isAlnum, isSign, isExponent, isPlain, isEscaped, inLine}
 use Rattle.fof_tokens.specs.Machine.{scan, soonest}

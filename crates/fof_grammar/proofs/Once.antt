@@ -1,8 +1,8 @@
 -- Tokens and names with the same number are the same.
-use Prim.Native.Nat.{ℕ, _<_}
+use Prim.Native.Nat.{_<_}
 use mathlib.Core.Path.{_≡_, refl, sym, _∙_, ap}
 use mathlib.Core.Bool.{Bool, true}
-use mathlib.Core.Option.{Option, none, some}
+use mathlib.Core.Option.{none, some}
 use native.Mathlib.Omega.{arith}
 use lib.Dec.{ltb}
 use borrow.Author.Tests.{ltb-true, ne-eqb}
@@ -10,7 +10,7 @@ use Rattle.basics.specs.Choice.{choose}
 use Rattle.fof_grammar.specs.Terminal.{Terminal, 'fof', other-word, single-q, upper-word, distinct, '$fof', '$cnf', '$fot', other-dollar, ddollar, integer, rational, real, lparen, rparen, '[', ']', lbrace, rbrace, comma, dot, ':', '-', '!', '?', '~', '&', '|', '=', '!=', '=>', '<=', '<=>', '<~>', '~|', '~&', '-->'}
 use Rattle.fof_grammar.specs.Terminal.{code}
 use Rattle.fof_grammar.specs.Name.{Name, aid, file, line, name, role, annotations, second-part, formula, logic, and-more, or-more, nonassoc, unit, quantifier, variable, variables, sequent, tuple, logics, logic-more, term, plain-term, defined-term, system-term, arguments, terms, number, general-term, general-data, general-arguments, general-terms, general-list, general-members, cnf, literals, literal, atomic, lower-word, dollar}
-use Rattle.fof_grammar.specs.Name.{Aid, role-end, logic-end, equation, atom-end, general-end, denied, equal-end}
+use Rattle.fof_grammar.specs.Name.{role-end, logic-end, equation, atom-end, general-end, denied, equal-end}
 use Rattle.fof_grammar.specs.Name.{ordinal}
 use Rattle.fof_grammar.specs.Coded.{terminalAt, nameAt, tokenAt}
 

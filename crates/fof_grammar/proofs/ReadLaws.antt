@@ -5,7 +5,7 @@ use mathlib.Core.Bool.{Bool, true, false}
 use mathlib.Core.List.{List, [], _∷_, _++_, map, append-nil, append-assoc}
 use mathlib.Core.Option.{Option, none, some}
 use native.Mathlib.Omega.{arith}
-use lib.ListN.{length, getD, drop, set, take, length-take, length-drop}
+use lib.ListN.{length, drop, set, take, length-take, length-drop}
 use Rattle.basics.specs.Choice.{choose, _>>=_}
 use Rattle.basics.specs.Tells.{Tells}
 use Rattle.basics.specs.Text.{octets}
@@ -22,7 +22,7 @@ use Rattle.fof_tokens.proofs.CutsLaws.{longest-filled}
 use Rattle.fof_tokens.proofs.NextLaws.{lexed-right, tokens-next}
 use Rattle.fof_grammar.specs.declared.read.Tokens.{Tokens}
 use Rattle.fof_grammar.specs.declared.read.Tokens.the-variants.{Count, Bad}
-use Rattle.fof_grammar.specs.Terminal.{Terminal, 'fof', other-word, '$fof', '$cnf', '$fot', other-dollar, sameOctets, terminal, code}
+use Rattle.fof_grammar.specs.Terminal.{'fof', other-word, '$fof', '$cnf', '$fot', other-dollar, sameOctets, terminal, code}
 use Rattle.fof_grammar.specs.Sound.{terminalOf}
 use Rattle.fof_grammar.specs.Read.{ReadAs}
 

@@ -3,7 +3,7 @@ use mathlib.Core.Path.{_≡_, refl}
 use mathlib.Core.Bool.{true}
 use Rattle.grammar.specs.Machine.{right}
 use Rattle.fof_grammar.specs.Name.{Name, aid, file, line, name, role, annotations, second-part, formula, logic, and-more, or-more, nonassoc, unit, quantifier, variable, variables, sequent, tuple, logics, logic-more, term, plain-term, defined-term, system-term, arguments, terms, number, general-term, general-data, general-arguments, general-terms, general-list, general-members, cnf, literals, literal, atomic, lower-word, dollar}
-use Rattle.fof_grammar.specs.Name.{Aid, role-end, logic-end, equation, atom-end, general-end, denied, equal-end}
+use Rattle.fof_grammar.specs.Name.{role-end, logic-end, equation, atom-end, general-end, denied, equal-end}
 use Rattle.fof_grammar.specs.Decided.{decided}
 
 pub rightly : (m : Name) → right decided m ≡ true

@@ -1,5 +1,4 @@
 -- The grammar and the one that the machine reads by derive the same: each production of one is a way to derive its name in the other, by a computed search.
-use Prim.Native.Nat.{ℕ}
 use mathlib.Core.Path.{_≡_, refl}
 use mathlib.Core.Bool.{Bool, true, false}
 use mathlib.Core.List.{List}
@@ -9,7 +8,7 @@ use Rattle.grammar.specs.Recast.{allOf, covers}
 use Rattle.grammar.proofs.Recast.{recast}
 use Rattle.fof_grammar.specs.Terminal.{Terminal, code}
 use Rattle.fof_grammar.specs.Name.{Name, aid, file, line, name, role, annotations, second-part, formula, logic, and-more, or-more, nonassoc, unit, quantifier, variable, variables, sequent, tuple, logics, logic-more, term, plain-term, defined-term, system-term, arguments, terms, number, general-term, general-data, general-arguments, general-terms, general-list, general-members, cnf, literals, literal, atomic, lower-word, dollar}
-use Rattle.fof_grammar.specs.Name.{Aid, role-end, logic-end, equation, atom-end, general-end, denied, equal-end}
+use Rattle.fof_grammar.specs.Name.{role-end, logic-end, equation, atom-end, general-end, denied, equal-end}
 use Rattle.fof_grammar.specs.Name.{ordinal}
 use Rattle.fof_grammar.specs.Grammar.{productions}
 use Rattle.fof_grammar.specs.Decided.{choices}

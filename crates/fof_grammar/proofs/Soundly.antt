@@ -10,7 +10,6 @@ use lib.ListN.{length}
 use borrow.Author.Tests.{lt-leb, le-leb}
 use Rattle.basics.specs.Tells.{Tells, tells-as, tells-once, told-no}
 use Rattle.fof_tokens.specs.Token.{Token}
-use Rattle.fof_tokens.specs.Cuts.{Cuts}
 use Rattle.fof_tokens.specs.Next.{tokens}
 use Rattle.fof_tokens.proofs.CutsLaws.{tokens-right, cut-once, no-tokens}
 use Rattle.grammar.specs.Derives.{any, Derives}

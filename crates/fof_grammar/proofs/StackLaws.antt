@@ -1,5 +1,5 @@
 -- The code's stack: what it holds when a byte is stored above, when a symbol is put on, and when an alternative is put on from its last symbol to its first.
-use Prim.Native.Nat.{ℕ, zero, suc, _+_, _-_, _<_, _≤_}
+use Prim.Native.Nat.{ℕ, zero, suc, _+_, _<_, _≤_}
 use mathlib.Core.Path.{_≡_, refl, sym, _∙_, ap, subst}
 use mathlib.Core.List.{List, [], _∷_, _++_, map, reverse, reverseAux, reverseAux-eq, reverse-reverse}
 use native.Mathlib.Omega.{arith}

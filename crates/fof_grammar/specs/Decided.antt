@@ -6,9 +6,9 @@ use mathlib.Core.Option.{Option, none, some}
 use Prim.Native.Nat.{ℕ}
 use lib.Dec.{eqb}
 use Rattle.grammar.specs.Derives.{Symbol, the, any}
-use Rattle.fof_grammar.specs.Terminal.{Terminal, 'fof', other-word, single-q, upper-word, distinct, '$fof', '$cnf', '$fot', other-dollar, ddollar, integer, rational, real, lparen, rparen, '[', ']', lbrace, rbrace, comma, dot, ':', '-', '!', '?', '~', '&', '|', '=', '!=', '=>', '<=', '<=>', '<~>', '~|', '~&', '-->'}
+use Rattle.fof_grammar.specs.Terminal.{Terminal, 'fof', other-word, single-q, upper-word, distinct, '$fof', '$cnf', '$fot', other-dollar, ddollar, integer, rational, real, lparen, rparen, '[', ']', lbrace, rbrace, comma, ':', '-', '!', '?', '~', '&', '|', '=', '!=', '=>', '<=', '<=>', '<~>', '~|', '~&', '-->'}
 use Rattle.fof_grammar.specs.Name.{Name, aid, file, line, name, role, annotations, second-part, formula, logic, and-more, or-more, nonassoc, unit, quantifier, variable, variables, sequent, tuple, logics, logic-more, term, plain-term, defined-term, system-term, arguments, terms, number, general-term, general-data, general-arguments, general-terms, general-list, general-members, cnf, literals, literal, atomic, lower-word, dollar}
-use Rattle.fof_grammar.specs.Name.{Aid, role-end, logic-end, equation, atom-end, general-end, denied, equal-end}
+use Rattle.fof_grammar.specs.Name.{role-end, logic-end, equation, atom-end, general-end, denied, equal-end}
 use Rattle.grammar.specs.Machine.{Grammar}
 use Rattle.fof_grammar.specs.Terminal.{code}
 use Rattle.fof_grammar.specs.Name.{ordinal}

@@ -1,14 +1,10 @@
 -- TPTP's published grammar of `fof` lines (document 02, request One), production by production: the rules `::=` for <fof_annotated>, as docs/DECISIONS.md says which version is meant.
 -- `the` is before a token, `any` before a name. `{ x }` and `[ x ]` of the grammar are names of their own: second-part, and-more, or-more, variables, logics, logic-more, arguments, terms, and so on.
 -- Which texts have which tokens is crate fof_tokens. What is not here: lines in other languages of TPTP, and includes (refusal 12 counts them), and what the formulas mean.
-use mathlib.Core.Bool.{Bool, true, false}
 use mathlib.Core.List.{List, [], _∷_}
-use mathlib.Core.Option.{Option, none, some}
-use Prim.Native.Nat.{ℕ}
 use Rattle.grammar.specs.Derives.{Symbol, the, any}
 use Rattle.fof_grammar.specs.Terminal.{Terminal, 'fof', other-word, single-q, upper-word, distinct, '$fof', '$cnf', '$fot', other-dollar, ddollar, integer, rational, real, lparen, rparen, '[', ']', lbrace, rbrace, comma, dot, ':', '-', '!', '?', '~', '&', '|', '=', '!=', '=>', '<=', '<=>', '<~>', '~|', '~&', '-->'}
 use Rattle.fof_grammar.specs.Name.{Name, aid, file, line, name, role, annotations, second-part, formula, logic, and-more, or-more, nonassoc, unit, quantifier, variable, variables, sequent, tuple, logics, logic-more, term, plain-term, defined-term, system-term, arguments, terms, number, general-term, general-data, general-arguments, general-terms, general-list, general-members, cnf, literals, literal, atomic, lower-word, dollar}
-use Rattle.fof_grammar.specs.Name.{Aid, role-end, logic-end, equation, atom-end, general-end, denied, equal-end}
 use Rattle.fof_grammar.specs.Aids.{aids}
 
 abbrev pub productions : Name → List (List (Symbol Terminal Name))

@@ -1,5 +1,5 @@
 -- The names of TPTP's grammar of `fof` lines (document 02, request One), in its order. What may be repeated or left out has a name of its own here, after the name that needs it.
-use Prim.Native.Nat.{ℕ, _+_}
+use Prim.Native.Nat.{ℕ}
 
 -- names that no production of the grammar has; the machine uses them where a choice is put off until the token that decides it (specs/Decided)
 pub data Aid : Type 0 where

@@ -1,7 +1,7 @@
 -- Which texts are `fof` lines (document 02, request One: "12 where TPTP's published grammar does not allow it"): those that can be cut into tokens that the grammar derives from `file`.
 -- Anything else is refusal 12. `sound` computes it; that it says the same is proofs/Soundly. A text's length, refusal 1, is not looked at here.
 use Prim.Native.Nat.{ℕ}
-use mathlib.Core.Bool.{Bool, true, false, _&&_}
+use mathlib.Core.Bool.{Bool, false, _&&_}
 use mathlib.Core.List.{List, [], _∷_, map}
 use mathlib.Core.Option.{Option, none, some}
 use lib.Dec.{leb}

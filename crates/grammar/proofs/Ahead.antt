@@ -1,8 +1,7 @@
 -- With what a row of symbols begins: the token ahead of whatever it derives is one of those that the grammar's sets name.
 -- And what may follow: of every name in a stack that the machine can reach, what comes after it is in the set of what follows it.
-use Prim.Native.Nat.{ℕ}
 use mathlib.Core.Path.{_≡_, refl, sym, _∙_, ap, subst}
-use mathlib.Core.Bool.{Bool, true, false, _&&_, _||_, not, false≢true}
+use mathlib.Core.Bool.{Bool, true, false, _&&_, _||_, not}
 use mathlib.Core.Logic.{_⊎_, inl, inr, ⊎-elim}
 use mathlib.Core.List.{List, [], _∷_, _++_}
 use mathlib.Core.Option.{Option, none, some}

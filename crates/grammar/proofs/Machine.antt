@@ -2,21 +2,21 @@
 -- A step of it, for whoever runs one: on a token, and on a name.
 use Prim.Native.Nat.{ℕ, zero, suc, _+_, _*_, _≤_, _<_}
 use mathlib.Core.Path.{_≡_, refl, sym, _∙_, ap, subst}
-use mathlib.Core.Bool.{Bool, true, false, _&&_, _||_, not, false≢true}
+use mathlib.Core.Bool.{Bool, true, false, false≢true}
 use mathlib.Core.Logic.{_⊎_, inl, inr, ⊎-elim}
 use mathlib.Core.List.{List, [], _∷_, _++_}
-use mathlib.Core.Option.{Option, none, some, Option·none-ne-some, Option·some-injective}
+use mathlib.Core.Option.{Option, none, some, Option·some-injective}
 use native.Mathlib.Omega.{arith}
 use native.Mathlib.Nat.{mul-suc}
-use lib.Dec.{eqb, ltb, leb}
+use lib.Dec.{eqb, ltb}
 use lib.ListN.{length, length-append}
 use borrow.Author.Tests.{eqb-true, eq-eqb, ltb-true, leb-true}
 use Rattle.basics.specs.Choice.{choose, both-true, nope}
 use Rattle.basics.specs.Tells.{Tells}
 use Rattle.grammar.specs.Derives.{Symbol, the, any, Has, Derives, end, token, choice}
-use Rattle.grammar.specs.Machine.{Grammar, has, apart, ahead, starts, gone, expected, firstOf, chosen, run, accepts, due, paid, rightAll, clear, distinct, right}
+use Rattle.grammar.specs.Machine.{Grammar, has, apart, ahead, starts, gone, expected, firstOf, chosen, run, accepts, due, rightAll, clear, distinct, right}
 use Rattle.grammar.proofs.Sets.{true-false, not-and, has-left, has-right, has-chosen, has-true, true-has, apart-has}
-use Rattle.grammar.proofs.Ahead.{First, first-append, Right, right-at, first, Fits, fits-choice}
+use Rattle.grammar.proofs.Ahead.{first-append, right-at, first, Fits, fits-choice}
 
 module _ {T N : Type 0} (G : Grammar T N) where
   -- what is chosen is an alternative

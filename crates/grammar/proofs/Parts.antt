@@ -3,7 +3,7 @@ use mathlib.Core.Path.{_≡_, refl, sym, _∙_, ap, subst}
 use mathlib.Core.List.{List, [], _∷_, _++_, append-assoc}
 use native.Mathlib.Omega.{arith}
 use lib.ListN.{length}
-use Rattle.grammar.specs.Derives.{Symbol, the, any, Has, Derives, end, token, choice}
+use Rattle.grammar.specs.Derives.{Symbol, the, any, Derives, end, token, choice}
 
 module _ {T N : Type 0} (alternatives : N → List (List (Symbol T N))) where
   pub join : {xs ys : List (Symbol T N)} {u v : List T} → Derives alternatives xs u → Derives alternatives ys v → Derives alternatives (xs ++ ys) (u ++ v)

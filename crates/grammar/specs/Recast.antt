@@ -1,7 +1,7 @@
 -- When two grammars over the same names derive the same: every production of each is, in the other, a way to derive its name.
 -- So a grammar can be stated as a document prints it, and read by another in which the token ahead decides every choice. The test is a search of a bounded number of steps.
 use Prim.Native.Nat.{ℕ, zero, suc}
-use mathlib.Core.Bool.{Bool, true, false, _&&_}
+use mathlib.Core.Bool.{Bool, true, false}
 use mathlib.Core.List.{List, [], _∷_, _++_, map}
 use lib.Dec.{eqb}
 use Rattle.grammar.specs.Derives.{Symbol, the, any}

@@ -1,9 +1,9 @@
 use native.Mathlib.Omega.{arith}
-use Prim.Native.Nat.{ℕ, _+_, _-_, _<_, _≤_}
-use mathlib.Core.Path.{_≡_, refl, sym, _∙_, ap, subst}
+use Prim.Native.Nat.{_-_}
+use mathlib.Core.Path.{_≡_, refl, _∙_}
 use mathlib.Core.Bool.{true}
 use mathlib.Core.List.{List, map}
-use lib.ListN.{length, getD, drop}
+use lib.ListN.{length, drop}
 use borrow.Author.Needs.{needs}
 use Rattle.grammar.specs.Machine.{ahead}
 use Rattle.fof_grammar.specs.Terminal.{Terminal, code}
@@ -18,7 +18,7 @@ abbrev Inv-loop : tie.InvT-loop
 Inv-loop codes at i₀ i = (w : List Terminal) → codes ≡ map code w → ahead decided true (drop at w) ≡ ahead decided true (drop i w)
 
 abbrev μ-loop : tie.MeasureT-loop
-μ-loop codes at i₀ i = length (codes) - i
+μ-loop codes at i₀ i = length codes - i
 
 -- src/machine.rt:31:5
 loop-holds : tie.Need-loop-holds Inv-loop μ-loop

@@ -1,4 +1,3 @@
-use native.Mathlib.Omega.{arith}
 use lib.ListN.{drop}
 use Rattle.fof_grammar.proofs.AheadLaws.{formula-decides, other-decides, nears}
 use borrow.Author.Needs.{needs}

@@ -1,6 +1,5 @@
-use native.Mathlib.Omega.{arith}
-use mathlib.Core.Path.{_≡_, refl}
-use mathlib.Core.Bool.{Bool, true, false}
+use mathlib.Core.Path.{refl}
+use mathlib.Core.Bool.{true, false}
 use borrow.Author.Needs.{needs}
 use Rattle.basics.specs.Text.{octets}
 use Rattle.fof_grammar.specs.Terminal.{sameOctets}

@@ -1,5 +1,4 @@
-use native.Mathlib.Omega.{arith}
-use mathlib.Core.Path.{_≡_, ap, sym, _∙_}
+use mathlib.Core.Path.{ap, sym, _∙_}
 use borrow.Author.Needs.{needs}
 use Rattle.fof_tokens.specs.declared.Kind.{Kind}
 use Rattle.fof_grammar.specs.Terminal.{terminal, code}

@@ -1,4 +1,3 @@
-use native.Mathlib.Omega.{arith}
 use borrow.Author.Needs.{needs}
 use Rattle.fof_grammar.proofs.Tables.{row-filled, row-width}
 use Rattle.fof_grammar.proofs.table.width.Statement.{statement}
