@@ -1,1 +1,2 @@
 pub mod InkLaws
+pub mod DueLaws
