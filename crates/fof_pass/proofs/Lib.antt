@@ -1,2 +1,3 @@
 pub mod InkLaws
 pub mod DueLaws
+pub mod AheadLaws
