@@ -1,3 +1,4 @@
 pub mod InkLaws
 pub mod DueLaws
 pub mod AheadLaws
+pub mod NameLaws

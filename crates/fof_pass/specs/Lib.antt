@@ -1,3 +1,4 @@
 pub mod Ink
 pub mod Dues
 pub mod Ahead
+pub mod Names

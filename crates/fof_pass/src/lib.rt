@@ -2,5 +2,6 @@
 mod ahead;
 mod dues;
 mod ink;
+mod names;
 
 pub use ink::Pen;
