@@ -3,5 +3,6 @@ mod ahead;
 mod dues;
 mod ink;
 mod names;
+mod take;
 
 pub use ink::Pen;
