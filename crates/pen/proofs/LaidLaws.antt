@@ -1,11 +1,15 @@
--- Bytes laid into a buffer: some behind others, byte by byte along a word, and where all have room or none has.
-use Prim.Native.Nat.{ℕ, suc, _+_, _≤_, _<_}
+-- Bytes laid into a buffer: some behind others, byte by byte along a word, where all have room or none has, and into the part of a buffer that is lent for them.
+use Prim.Native.Nat.{ℕ, zero, suc, _+_, _-_, _≤_, _<_}
 use mathlib.Core.Path.{_≡_, refl, sym, _∙_, ap, subst}
-use mathlib.Core.List.{List, [], _∷_, _++_, append-assoc}
+use mathlib.Core.List.{List, [], _∷_, _++_, append-assoc, append-nil}
 use native.Mathlib.Omega.{arith}
-use lib.ListN.{length, getD, take, drop, set, length-append, length-set}
+use mathlib.Core.Bool.{Bool, true, false}
+use lib.Dec.{ltb}
+use borrow.Author.Tests.{ltb-true, ltb-false}
+use lib.ListN.{length, getD, take, drop, set, length-append, length-set, length-drop, drop-of-length-le}
 use lib.Seq.{take-suc, take-all, set-out}
-use Rattle.pen.specs.Laid.{counted, laid, Puts}
+use borrow.Rule.Slice.PartMut.{midOf, postOf, putMid}
+use Rattle.pen.specs.Laid.{largest, counted, laid, Puts}
 
 pub laid-length : (at : ℕ) (w d : List ℕ) → length (laid at w d) ≡ length d
 unfolding laid
@@ -90,3 +94,49 @@ pub laid-nowhere : (at : ℕ) (w : List ℕ) → laid at w [] ≡ []
 unfolding laid
 laid-nowhere at [] = refl
 laid-nowhere at (x ∷ w) = laid-nowhere (suc at) w
+
+-- beyond the buffer's end nothing changes
+laid-out : (at : ℕ) (w d : List ℕ) → length d ≤ largest → length d ≤ at → laid at w d ≡ d
+unfolding laid
+laid-out at [] d s l = refl
+laid-out at (x ∷ w) d s l =
+    laid-out (suc at) w (set d (counted at) x) (omega (arith, length-set d (counted at) x)) (omega (arith, length-set d (counted at) x)) ∙ set-out d (counted at) x (omega arith)
+
+-- a byte in front takes no part in what is laid behind it
+laid-further : (at y : ℕ) (w d : List ℕ) → suc (length d) ≤ largest → laid (suc at) w (y ∷ d) ≡ y ∷ laid at w d
+unfolding laid
+laid-further at y [] d s = refl
+laid-further at y (x ∷ w) d s = go (ltb at largest) refl (λ e l. laid-further (suc at) y w e l)
+  where
+    go : (t : Bool) → ltb at largest ≡ t → ((e : List ℕ) → suc (length e) ≤ largest → laid (suc (suc at)) w (y ∷ e) ≡ y ∷ laid (suc at) w e) → laid (suc (suc at)) w (set (y ∷ d) (counted (suc at)) x) ≡ y ∷ laid (suc at) w (set d (counted at) x)
+    go true t more =
+        let u = ltb-true at largest t in
+        ap (λ (k : ℕ). laid (suc (suc at)) w (set (y ∷ d) k x)) {x = counted (suc at)} {y = suc (counted at)} (omega arith) ∙ more (set d (counted at) x) (omega (arith, length-set d (counted at) x))
+    go false t more =
+        let u = ltb-false at largest t in
+        ap (laid (suc (suc at)) w) (set-out (y ∷ d) (counted (suc at)) x (omega arith))
+        ∙ laid-out (suc (suc at)) w (y ∷ d) (omega arith) (omega arith)
+        ∙ ap (λ (r : List ℕ). y ∷ r) (sym (ap (laid (suc at) w) (set-out d (counted at) x (omega arith)) ∙ laid-out (suc at) w d (omega arith) (omega arith)))
+
+-- laid into the part behind i bytes
+laid-part : (i at : ℕ) (w d : List ℕ) → length d ≤ largest → i ≤ length d → take i d ++ laid at w (drop i d) ≡ laid (i + at) w d
+laid-part zero at w d s l = ap (λ (n : ℕ). laid n w d) {x = at} {y = 0 + at} (omega arith)
+laid-part (suc i) at w [] s l = absurd (omega arith)
+laid-part (suc i) at w (y ∷ d) s l =
+    ap (λ (r : List ℕ). y ∷ r) (laid-part i at w d (omega arith) (omega arith))
+    ∙ sym (laid-further (i + at) y w d s)
+    ∙ ap (λ (n : ℕ). laid n w (y ∷ d)) {x = suc (i + at)} {y = suc i + at} (omega arith)
+
+-- a buffer's part behind i bytes is lent, and bytes are put into it: they are put into the buffer
+pub puts-lent : {i m n r : ℕ} {w d p′ : List ℕ} → i ≤ m → i ≤ length d → length d ≤ largest → Puts (m - i) w (midOf i (length d - i) d) p′ n → r ≡ counted (i + n) → Puts m w d (putMid i (length d - i) d p′) r
+puts-lent {i} {m} {n} {r} {w} {d} {p′} l k s p e =
+    let post : postOf i (length d - i) d ≡ [] = drop-of-length-le (drop i d) {i = length d - i} (rw length-drop (omega arith)) in
+    let mid : midOf i (length d - i) d ≡ drop i d = take-all (length d - i) (drop i d) (rw length-drop (omega arith)) in
+    record {
+      bytes =
+          ap (λ (x : List ℕ). take i d ++ (p′ ++ x)) post
+          ∙ ap (λ (x : List ℕ). take i d ++ x) (append-nil p′ ∙ p .bytes ∙ ap (λ (x : List ℕ). laid (m - i) w x) mid)
+          ∙ laid-part i (m - i) w d s k
+          ∙ ap (λ (x : ℕ). laid x w d) {x = i + (m - i)} {y = m} (omega arith);
+      ahead = omega (arith, p .ahead);
+    }

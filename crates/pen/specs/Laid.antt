@@ -1,13 +1,17 @@
 -- Bytes laid into a buffer from a place on, each as far as the buffer has room for it (document 01, "What comes back"; document 02, One: what is written fills the front of the buffer and the rest keeps its bytes).
--- A place is counted no further than one past the most that a file or a strip may have. Laid from place 0, bytes that have room stand in front of what is left, and a buffer with no room stays as it is: proofs/LaidLaws.
+-- A place is counted no further than a machine word goes; no buffer has a byte there. Laid from place 0, bytes that have room stand in front of what is left, and a buffer with no room stays as it is; the part of a buffer from a place on can be lent for what is laid there: proofs/LaidLaws.
 use Prim.Native.Nat.{ℕ, suc, _+_, min}
 use mathlib.Core.Path.{_≡_}
 use mathlib.Core.List.{List, [], _∷_}
 use lib.ListN.{length, set}
 
--- a length, counted no further than one past the most
+-- the largest machine word
+abbrev pub largest : ℕ
+largest = 18446744073709551615
+
+-- a place, counted no further than that
 abbrev pub counted : ℕ → ℕ
-counted n = min n 16385
+counted n = min n largest
 
 unfoldable pub laid : ℕ → List ℕ → List ℕ → List ℕ
 laid at [] d = d

@@ -1,5 +1,5 @@
 // Bytes laid into a buffer, as far as it has room: a byte, a word, a number (document 01, "What comes back").
-// Places are counted no further than one past the most that a file or a strip may have, so that the same walk measures what it writes.
+// A place may lie beyond the buffer's end, so that the same walk measures what it writes.
 ghost use mathlib.Core.Path.{_≡_};
 ghost use Prim.Native.Nat.{_+_, _%_};
 ghost use mathlib.Core.List.{[], _∷_};
@@ -9,21 +9,24 @@ ghost use Rattle.pen.specs.Laid.{Puts};
 ghost use Rattle.pen.specs.Laid as laying;
 ghost use Rattle.pen.specs.Numeral.{numeral};
 
-// A place, counted no further than one past the most.
-fn counted(at: usize) -> usize
-    ensures { λ r. ⌜ r ≡ laying.counted at ⌝ }
+// The next place, counted no further than a machine word goes.
+fn after(at: usize) -> usize
+    ensures { λ r. ⌜ r ≡ laying.counted (at + 1) ⌝ }
 {
-    if at < 16385 { at } else { 16385 }
+    if at < 0xffff_ffff_ffff_ffff {
+        at + 1
+    } else {
+        at
+    }
 }
 
 // One byte; the place after it.
 pub fn put_byte(buf: &mut [u8], at: usize, b: u8) -> usize
     ensures { λ r. ⌜ Puts at (b ∷ []) (now (buf .entry)) (now (buf .exit)) r ⌝ }
 {
-    let i = counted(at);
-    let m = counted(i + 1);
-    if i < buf.len() {
-        buf[i] = b;
+    let m = after(at);
+    if at < buf.len() {
+        buf[at] = b;
         return m;
     }
     m
@@ -33,7 +36,7 @@ pub fn put_byte(buf: &mut [u8], at: usize, b: u8) -> usize
 pub fn put(buf: &mut [u8], at: usize, word: &[u8]) -> usize
     ensures { λ r. ⌜ Puts at (now (word .entry)) (now (buf .entry)) (now (buf .exit)) r ⌝ }
 {
-    let mut m = counted(at);
+    let mut m = at;
     let mut i = 0;
     while i < word.len() {
         m = put_byte(buf, m, word[i]);

@@ -1,9 +1,11 @@
 -- What is drawn of a strip, node by node: a head, the parts one behind another, and the closing parenthesis. No strip that is 64 high has more nodes than a machine word counts.
-use Prim.Native.Nat.{ℕ, suc, _≤_, _<_}
+use Prim.Native.Nat.{ℕ, suc, _-_, _≤_, _<_}
 use mathlib.Core.Path.{_≡_, refl, sym, _∙_, ap, subst}
 use mathlib.Core.List.{List, [], _∷_, _++_, append-assoc}
 use mathlib.Core.Option.{Option, none, some, Option·some-injective}
 use native.Mathlib.Omega.{arith}
+use lib.ListN.{length}
+use borrow.Rule.Slice.PartMut.{midOf, putMid}
 use Rattle.basics.specs.Text.{octets}
 use Rattle.basics.specs.Choice.{_>>=_, bind-some}
 use Rattle.harrop.specs.Formula.{Goal, Step, Strip, height, nodes}
@@ -13,11 +15,11 @@ use Rattle.writer.specs.Spelled.{written, stepBytes, pathBytes}
 use Rattle.pen.specs.Numeral.{numeral}
 use Rattle.writer.specs.Chosen.{usedAt}
 use Rattle.pen.specs.Laid.{Puts}
-use Rattle.writer.specs.Drawn.{nothing, beside, Closes, Draws, DrawsRest, restBytes, restHeight, restNodes, ended, useOf}
+use Rattle.writer.specs.Drawn.{nothing, Cuts, behind, beside, Closes, Draws, DrawsRest, restBytes, restHeight, restNodes, ended, useOf}
 use Rattle.writer.specs.declared.Drawn.{Drawn}
 use Rattle.writer.proofs.StripLaws.{few-nodes}
 use Rattle.writer.proofs.SpelledLaws.{top-spelled, and-spelled, left-spelled, right-spelled, some-spelled, all-spelled, imp-spelled, use₀-spelled, use₁-spelled, no-steps, one-step, l-bytes, r-bytes, n-bytes}
-use Rattle.pen.proofs.LaidLaws.{puts-then, puts-as}
+use Rattle.pen.proofs.LaidLaws.{puts-then, puts-as, puts-lent}
 
 few : (S : Strip) → height S ≤ 64 → nodes S < 18446744073709551616
 few S l = few-nodes 64 S l
@@ -131,3 +133,14 @@ used-rest prove k path (End.atAtom b bs) S e = (none, refl, sym (Option·some-in
 used-rest prove k path (End.atImp g b bs) S e =
     let (X, f, i) = bind-some (prove g bs) (λ P. some (Strip.use₁ k path P)) S e in
     (some X, ap (λ (o : Option Strip). o >>= λ Y. some (some Y)) f, sym (Option·some-injective (Strip.use₁ k path X) S i))
+
+-- what is drawn in the remaining part of a buffer, which is lent, is drawn in the buffer
+pub draws-lent : {i m : ℕ} {S : Strip} {d p′ : List ℕ} {a r : Drawn} → Cuts m (length d) i → r ≡ behind i a → Draws (m - i) S (midOf i (length d - i) d) p′ a → Draws m S d (putMid i (length d - i) d p′) r
+draws-lent {i} {m} {S} {d} {p′} {a} c e x =
+    subst (λ (z : Drawn). Draws m S d (putMid i (length d - i) d p′) z) (sym e)
+    (record { puts = puts-lent {i = i} {m = m} (omega (arith, c .there)) (omega (arith, c .there)) (c .small) (x .puts) refl; high = x .high; many = x .many })
+
+pub rest-lent : {i m : ℕ} {path : List Step} {B : Option Strip} {d p′ : List ℕ} {a r : Drawn} → Cuts m (length d) i → r ≡ behind i a → DrawsRest (m - i) path B (midOf i (length d - i) d) p′ a → DrawsRest m path B d (putMid i (length d - i) d p′) r
+rest-lent {i} {m} {path} {B} {d} {p′} {a} c e x =
+    subst (λ (z : Drawn). DrawsRest m path B d (putMid i (length d - i) d p′) z) (sym e)
+    (record { puts = puts-lent {i = i} {m = m} (omega (arith, c .there)) (omega (arith, c .there)) (c .small) (x .puts) refl; high = x .high; many = x .many })

@@ -5,9 +5,10 @@ use native.Mathlib.Omega.{arith}
 use native.Mathlib.Numerals.{sub-one}
 use mathlib.Core.Path.{_≡_, refl, sym, _∙_, ap, subst}
 use mathlib.Core.Bool.{Bool, true, false}
-use mathlib.Core.List.{List, [], _∷_}
+use mathlib.Core.List.{List, [], _∷_, _++_}
 use mathlib.Core.Option.{Option, none, some, Option·some-injective}
-use lib.ListN.{length, drop, set, getElem?}
+use lib.ListN.{length, take, drop, set, getElem?, length-append, length-take, length-drop}
+use borrow.Rule.Slice.PartMut.{midOf, postOf, putMid}
 use Rattle.basics.specs.Choice.{choose, _>>=_, both-true, nope, bind-some}
 use Rattle.basics.specs.Text.{octets}
 use Rattle.harrop.specs.declared.Binding.the-variants.{Candidate}
@@ -50,12 +51,12 @@ use Rattle.provable.proofs.PassingLaws.{taken-part, taken-kept, push-kept, take
 use Rattle.pen.specs.Numeral.{numeral}
 use Rattle.writer.specs.Chosen.{firstYes, stepping, usedAt, candidateFrom, clauseFrom, way}
 use Rattle.pen.specs.Laid.{Puts}
-use Rattle.writer.specs.Drawn.{Closes, Draws, DrawsRest, ended, useOf}
+use Rattle.writer.specs.Drawn.{Cuts, behind, Closes, Draws, DrawsRest, ended, useOf}
 use Rattle.writer.specs.Writing.{Did, Writing, WritingAs, Pathing, PathingAs, FirstClause, FirstThrough}
 use Rattle.writer.specs.declared.Drawn.{Drawn}
 use Rattle.writer.proofs.ChosenLaws.{first-atom}
 use Rattle.writer.proofs.TakenLaws.{way-atom, way-imp, way-number, way-l, way-r, took-use}
-use Rattle.writer.proofs.DrawLaws.{draws-use, rest-body, rest-l, rest-r, rest-n, used-rest}
+use Rattle.writer.proofs.DrawLaws.{draws-lent, rest-lent, draws-use, rest-body, rest-l, rest-r, rest-n, used-rest}
 
 -- what is claimed of a clause
 abbrev Claim : Files → List ℕ → List ℕ → List ℕ → List ℕ → List (Clause Plain) → List Term → Where → Spot → ℕ → ℕ → ℕ → Drawn → List Plain → Hand Plain → Bindings → Atom → Bindings → List Step → End Plain → Option Strip → Clause Plain → Type 0
@@ -75,6 +76,21 @@ pathing-from {f} {after = after} {d = d} {d′ = d′} {w = w} {x = x} {nest = n
 
 pub writing-at : {f : Files} {room after d d′ : List ℕ} {v w : Where} {h at : ℕ} {r : Drawn} → v ≡ w → Writing f room after d d′ v h at r → Writing f room after d d′ w h at r
 writing-at {f} {room} {after} {d} {d′} {h = h} {at = at} {r = r} e p = subst (λ (z : Where). Writing f room after d d′ z h at r) e p
+
+-- a call's promise on the remaining part of a buffer, which is lent to it, is one on the buffer
+pub writing-lent : {f : Files} {room after d p′ : List ℕ} {w : Where} {h i m : ℕ} {a r : Drawn} → Cuts m (length d) i → r ≡ behind i a → Writing f room after (midOf i (length d - i) d) p′ w h (m - i) a → Writing f room after d (putMid i (length d - i) d p′) w h m r
+writing-lent k e p ds us o c bs g S y z = let x = p ds us o c bs g S y z in record { kept = x .kept; done = draws-lent k e (x .done) }
+
+pub pathing-lent : {f : Files} {room after d p′ : List ℕ} {w : Where} {x : Spot} {nest left i m : ℕ} {a r : Drawn} → Cuts m (length d) i → r ≡ behind i a → Pathing f room after (midOf i (length d - i) d) p′ w x nest left (m - i) a → Pathing f room after d (putMid i (length d - i) d p′) w x nest left m r
+pathing-lent k e p ds us o c bs a dc bs′ path v B n t y z = let x = p ds us o c bs a dc bs′ path v B n t y z in record { kept = x .kept; done = rest-lent k e (x .done) }
+
+-- a buffer is as long as before when a part of it comes back
+pub lent-length : (i m : ℕ) (d p′ : List ℕ) → Cuts m (length d) i → length p′ ≡ length (midOf i (length d - i) d) → length (putMid i (length d - i) d p′) ≡ length d
+lent-length i m d p′ k e =
+    let mid : length (midOf i (length d - i) d) ≡ length d - i = simp (length-take, length-drop) (omega arith) in
+    let post : length (postOf i (length d - i) d) ≡ 0 = simp length-drop (omega arith) in
+    length-append (take i d) (p′ ++ postOf i (length d - i) d)
+    ∙ omega (arith, length-append p′ (postOf i (length d - i) d), length-take i d, k .there)
 
 -- the same path and the same body
 drawn-as : {at : ℕ} {path path′ : List Step} {B B′ : Option Strip} {d d′ : List ℕ} {r : Drawn} → path′ ≡ path → B ≡ B′ → DrawsRest at path B d d′ r → DrawsRest at path′ B′ d d′ r

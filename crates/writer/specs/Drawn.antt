@@ -1,5 +1,5 @@
 -- What is drawn of a strip from a place of a buffer on: its bytes, its height and nodes, and the place after it (document 01, "What comes back").
-use Prim.Native.Nat.{ℕ, max}
+use Prim.Native.Nat.{ℕ, _≤_, max, min}
 use mathlib.Core.Path.{_≡_}
 use mathlib.Core.List.{List, _++_}
 use mathlib.Core.Option.{Option, none, some}
@@ -12,12 +12,21 @@ use Rattle.harrop.specs.Place.{End}
 use Rattle.room.specs.Where.{plus}
 use Rattle.writer.specs.Spelled.{written}
 use Rattle.writer.specs.Spelled.{pathBytes}
-use Rattle.pen.specs.Laid.{Puts}
+use Rattle.pen.specs.Laid.{largest, Puts}
 use Rattle.writer.specs.declared.Drawn.{Drawn}
 
 -- nothing, at a place
 abbrev pub nothing : ℕ → Drawn
 nothing at = record { height = 0; nodes = 0; at = at }
+
+-- where the part of a buffer begins that is behind m bytes, or its end; no buffer is longer than a machine word counts
+pub record Cuts (m size r : ℕ) : Type 0 where
+  pub there : r ≡ min m size
+  pub small : size ≤ largest
+
+-- what is drawn in a part of a buffer that begins behind i bytes
+abbrev pub behind : ℕ → Drawn → Drawn
+behind i a = record { height = a .height; nodes = a .nodes; at = plus i (a .at) }
 
 -- two parts side by side
 abbrev pub beside : Drawn → Drawn → Drawn

@@ -27,6 +27,24 @@ fn higher(a: usize, b: usize) -> usize
     if a < b { b } else { a }
 }
 
+// Where the part of a buffer begins that is behind so many bytes; its end, if it has no more.
+pub(crate) fn cut(m: usize, size: usize) -> usize
+    ensures { λ r. ⌜ drawing.Cuts m size r ⌝ }
+{
+    if m < size { m } else { size }
+}
+
+// What is drawn in a part of a buffer that begins behind so many bytes.
+pub(crate) fn behind(i: usize, a: Drawn) -> Drawn
+    ensures { λ r. ⌜ r ≡ drawing.behind i a ⌝ }
+{
+    Drawn {
+        height: a.height,
+        nodes: a.nodes,
+        at: plus(i, a.at),
+    }
+}
+
 // Two parts side by side: the height of the higher, the nodes of both, the place after the second.
 pub(crate) fn beside(a: Drawn, b: Drawn) -> Drawn
     ensures { λ r. ⌜ r ≡ drawing.beside a b ⌝ }

@@ -1,11 +1,14 @@
 // The first strip at a place that has a proof, drawn node by node: of each option in order crate provable is asked, and the walk goes on in the first that has a proof
-// (document 01, "Which strip the search writes"). A node draws its head, then its parts from the place where it ended, then its closing parenthesis.
+// (document 01, "Which strip the search writes"). A node draws its head, lends the remaining part of the buffer to the writer of each of its parts, and draws its closing parenthesis behind them. `at` is 0 but for a part
+// that begins beyond the buffer's end, where nothing is written and the strip is only measured.
 use crate::Drawn;
 use crate::first::first_clause;
 use crate::first::first_through;
 use crate::first::first_with;
+use crate::put::behind;
 use crate::put::beside;
 use crate::put::close;
+use crate::put::cut;
 use crate::put::nothing;
 use crate::put::shut;
 use crate::put::top;
@@ -80,8 +83,34 @@ fn write_both<'a>(
         return nothing(at);
     };
     let m = put(strip, at, b"(3:and");
-    let a = write_goal(rules, goal, terms, room, strip, within(w, 6), left, m);
-    let b = write_goal(rules, goal, terms, room, strip, within(w, n), left, a.at);
+    let from = cut(m, strip.len());
+    let a = behind(
+        from,
+        write_goal(
+            rules,
+            goal,
+            terms,
+            room,
+            &mut strip[from..],
+            within(w, 6),
+            left,
+            m - from,
+        ),
+    );
+    let from = cut(a.at, strip.len());
+    let b = behind(
+        from,
+        write_goal(
+            rules,
+            goal,
+            terms,
+            room,
+            &mut strip[from..],
+            within(w, n),
+            left,
+            a.at - from,
+        ),
+    );
     close(strip, beside(a, b))
 }
 
@@ -103,11 +132,37 @@ fn write_either<'a>(
     };
     if prove_goal(rules, goal, terms, room, within(w, 5), left) {
         let m = put(strip, at, b"(4:left");
-        let a = write_goal(rules, goal, terms, room, strip, within(w, 5), left, m);
+        let from = cut(m, strip.len());
+        let a = behind(
+            from,
+            write_goal(
+                rules,
+                goal,
+                terms,
+                room,
+                &mut strip[from..],
+                within(w, 5),
+                left,
+                m - from,
+            ),
+        );
         return close(strip, a);
     }
     let m = put(strip, at, b"(5:right");
-    let a = write_goal(rules, goal, terms, room, strip, within(w, n), left, m);
+    let from = cut(m, strip.len());
+    let a = behind(
+        from,
+        write_goal(
+            rules,
+            goal,
+            terms,
+            room,
+            &mut strip[from..],
+            within(w, n),
+            left,
+            m - from,
+        ),
+    );
     close(strip, a)
 }
 
@@ -128,15 +183,19 @@ fn write_some<'a>(
     push(room, w.top, Binding::Candidate(i));
     let m = put(strip, at, b"(4:some");
     let m = put_number(strip, m, i as usize);
-    let a = write_goal(
-        rules,
-        goal,
-        terms,
-        room,
-        strip,
-        bound(w, 7, w.parameters),
-        left,
-        m,
+    let from = cut(m, strip.len());
+    let a = behind(
+        from,
+        write_goal(
+            rules,
+            goal,
+            terms,
+            room,
+            &mut strip[from..],
+            bound(w, 7, w.parameters),
+            left,
+            m - from,
+        ),
     );
     close(strip, a)
 }
@@ -160,7 +219,20 @@ fn write_all<'a>(
     let p = w.parameters + 1;
     push(room, w.top, Binding::Parameter(p as u32));
     let m = put(strip, at, b"(3:all");
-    let a = write_goal(rules, goal, terms, room, strip, bound(w, 6, p), left, m);
+    let from = cut(m, strip.len());
+    let a = behind(
+        from,
+        write_goal(
+            rules,
+            goal,
+            terms,
+            room,
+            &mut strip[from..],
+            bound(w, 6, p),
+            left,
+            m - from,
+        ),
+    );
     close(strip, a)
 }
 
@@ -185,7 +257,20 @@ fn write_under<'a>(
     };
     suppose(room, w.supposed, further(w.goal, 6));
     let m = put(strip, at, b"(3:imp");
-    let a = write_goal(rules, goal, terms, room, strip, supposes(w, n), left, m);
+    let from = cut(m, strip.len());
+    let a = behind(
+        from,
+        write_goal(
+            rules,
+            goal,
+            terms,
+            room,
+            &mut strip[from..],
+            supposes(w, n),
+            left,
+            m - from,
+        ),
+    );
     close(strip, a)
 }
 
@@ -209,7 +294,22 @@ fn write_use<'a>(
     let m = put(strip, at, b"(3:use");
     let m = put_number(strip, m, k);
     let m = put(strip, m, b"(");
-    let a = write_path(rules, goal, terms, room, strip, w, x, 64, left, m);
+    let from = cut(m, strip.len());
+    let a = behind(
+        from,
+        write_path(
+            rules,
+            goal,
+            terms,
+            room,
+            &mut strip[from..],
+            w,
+            x,
+            64,
+            left,
+            m - from,
+        ),
+    );
     close(strip, a)
 }
 
@@ -261,7 +361,20 @@ fn write_body<'a>(
         parameters: w.parameters,
         top: plus(x.base, x.count),
     };
-    write_goal(rules, goal, terms, room, strip, body, left, m)
+    let from = cut(m, strip.len());
+    behind(
+        from,
+        write_goal(
+            rules,
+            goal,
+            terms,
+            room,
+            &mut strip[from..],
+            body,
+            left,
+            m - from,
+        ),
+    )
 }
 
 // The left clause of an `and`, if a path through it ends well, else the right one.
@@ -284,31 +397,39 @@ fn path_and<'a>(
     };
     if through(rules, goal, terms, room, w, further(x, 6), nest, left) {
         let m = put(strip, at, b"1:l");
-        return write_path(
+        let from = cut(m, strip.len());
+        return behind(
+            from,
+            write_path(
+                rules,
+                goal,
+                terms,
+                room,
+                &mut strip[from..],
+                w,
+                further(x, 6),
+                nest,
+                left,
+                m - from,
+            ),
+        );
+    }
+    let m = put(strip, at, b"1:r");
+    let from = cut(m, strip.len());
+    behind(
+        from,
+        write_path(
             rules,
             goal,
             terms,
             room,
-            strip,
+            &mut strip[from..],
             w,
-            further(x, 6),
+            further(x, n),
             nest,
             left,
-            m,
-        );
-    }
-    let m = put(strip, at, b"1:r");
-    write_path(
-        rules,
-        goal,
-        terms,
-        room,
-        strip,
-        w,
-        further(x, n),
-        nest,
-        left,
-        m,
+            m - from,
+        ),
     )
 }
 
@@ -330,16 +451,20 @@ fn path_all<'a>(
     let i = first_through(rules, goal, terms, room, w, x, nest, left);
     push(room, plus(x.base, x.count), Binding::Candidate(i));
     let m = put_number(strip, at, i as usize);
-    write_path(
-        rules,
-        goal,
-        terms,
-        room,
-        strip,
-        w,
-        deeper(x, 6),
-        nest,
-        left,
-        m,
+    let from = cut(m, strip.len());
+    behind(
+        from,
+        write_path(
+            rules,
+            goal,
+            terms,
+            room,
+            &mut strip[from..],
+            w,
+            deeper(x, 6),
+            nest,
+            left,
+            m - from,
+        ),
     )
 }

@@ -1,23 +1,16 @@
 -- `put_byte` of src/lib.rt meets its contract. Assumes nothing.
 use Rattle.pen.proofs.LaidLaws.{puts-byte, puts-out}
+use native.Mathlib.Omega.{arith}
 use borrow.Author.Needs.{needs}
 use Rattle.pen.proofs.put_byte.Statement.{statement}
 use Rattle.pen.proofs.put_byte.Tie as tie
 use Rattle.pen.proofs.put_byte.Reads as reads
 use Rattle.pen.proofs.put_byte.Lts as lts
-use Rattle.pen.proofs.counted.Reads as counted-reads
-
--- src/lib.rt:26:9
-counted-requires : tie.Need-counted-requires
-counted-requires c κs = search needs
-
--- src/lib.rt:27:21
-add-counted : tie.Need-add-counted
-add-counted c = search needs
+use Rattle.pen.proofs.after.Reads as after-reads
 
 -- src/lib.rt:27:9
-counted-requires-2 : tie.Need-counted-requires-2
-counted-requires-2 c κs = search needs
+after-requires : tie.Need-after-requires
+after-requires c κs = search needs
 
 -- src/lib.rt:29:9
 slice-write-buf : tie.Need-slice-write-buf
@@ -29,20 +22,11 @@ same-length c = search needs
 
 -- src/lib.rt:30:9
 returns : tie.Need-returns
-returns c = puts-byte (c .before .before .before .before .args .b) (c .before .before .before .before .args .buf .now) (c .before .before .counted .ensures) (c .before .counted2 .ensures)
+returns c = puts-byte {at = c .before .before .before .args .at} {i = c .before .before .before .args .at} (c .before .before .before .args .b) (c .before .before .before .args .buf .now) (omega (arith, c .before .before .before .fits)) (omega (arith, c .before .after .ensures))
 
--- src/lib.rt:23:1
+-- src/lib.rt:24:1
 returns-2 : tie.Need-returns-2
-returns-2 c = puts-out (c .before .before .before .before .args .b) (c .before .before .before .before .args .buf .now) (c .before .before .counted .ensures) (c .before .counted2 .ensures) (c .if1 .left)
+returns-2 c = puts-out {at = c .before .before .before .args .at} {i = c .before .before .before .args .at} (c .before .before .before .args .b) (c .before .before .before .args .buf .now) (omega (arith, c .before .before .before .fits)) (omega (arith, c .before .after .ensures)) (c .if1 .left)
 
 pub put-byte-spec : {M : Type 1} → statement M
-put-byte-spec =
-    tie.close
-    (tie.spec
-    counted-requires
-    add-counted
-    counted-requires-2
-    slice-write-buf
-    same-length
-    returns
-    returns-2)
+put-byte-spec = tie.close (tie.spec after-requires slice-write-buf same-length returns returns-2)
