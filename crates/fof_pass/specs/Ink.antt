@@ -7,7 +7,7 @@ use mathlib.Core.List.{List, [], _∷_}
 use lib.Dec.{ltb}
 use lib.ListN.{length}
 use Rattle.basics.specs.Choice.{choose}
-use Rattle.pen.specs.Laid.{Puts}
+use Rattle.pen.specs.Laid.{largest, Puts}
 use Rattle.fof_part.specs.Mark.{Mark, inked}
 use Rattle.fof_pass.specs.declared.ink.Pen.{Pen}
 
@@ -29,6 +29,6 @@ levelOf p = (p .depth, p .deep)
 
 -- the marks are written with pen p, whose place is counted, into the buffer d, which becomes d′; the pen is then q
 pub record Inks (ms : List Mark) (p : Pen) (d d′ : List ℕ) (q : Pen) : Type 0 where
-  pub puts : p .at ≤ 16385 → Puts (p .at) (inked ms) d d′ (q .at)
+  pub puts : p .at ≤ largest → Puts (p .at) (inked ms) d d′ (q .at)
   pub long : length d′ ≡ length d
   pub level : levelOf q ≡ leveled (levelOf p) ms
