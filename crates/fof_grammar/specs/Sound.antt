@@ -1,5 +1,5 @@
--- Which texts are `fof` lines (document 02, request One: "12 where TPTP's published grammar does not allow it"): those that can be cut into tokens that the grammar derives from `file`.
--- Anything else is refusal 12. `sound` computes it; that it says the same is proofs/Soundly. A text's length, refusal 1, is not looked at here.
+-- Which texts are `fof` lines (document 02, request One: "12 where TPTP's published grammar for `fof` lines doesn't allow the text"): those that can be cut into tokens that the grammar derives from `file`.
+-- Anything else is refusal 12. `sound` computes it; that it says the same is proofs/Soundly. `Sound` and `sound` do not look at a text's length, which is refusal 1; `soundBook`, what the code answers, does.
 use Prim.Native.Nat.{ℕ}
 use mathlib.Core.Bool.{Bool, false, _&&_}
 use mathlib.Core.List.{List, [], _∷_, map}

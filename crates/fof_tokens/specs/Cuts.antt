@@ -1,4 +1,4 @@
--- How a TPTP text is cut into tokens (document 02, request One: "Comments count as spaces"): from the left, each time the longest piece that stands there. A piece is a
+-- How a TPTP text is cut into tokens (document 02, request One: "comments count as spaces"): from the left, each time the longest piece that stands there. A piece is a
 -- space, a comment or a token; spaces and comments are dropped. A text that cannot be cut to its end has no tokens; where it fails is not said.
 use Prim.Native.Nat.{ℕ, _+_, _<_, _≤_}
 use mathlib.Core.List.{List, [], _∷_}

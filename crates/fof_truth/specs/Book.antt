@@ -1,5 +1,5 @@
 -- What a whole book comes to (document 02, One): the axioms become rules in file order, the one conjecture the goal, both to be written as canonical files; or a refusal, in the order 13, 6, 3, 10.
--- The two before these, 1 and 12, are given on the text, before there are lines. All are of file 1, with place 0. `a` and `b` are the lengths of the two buffers.
+-- The two before these, 1 and 12, are given on the text, before there are lines. All are of file 1, with place 0. `a` and `c` are the lengths of the two buffers.
 use Prim.Native.Nat.{ℕ, min}
 use mathlib.Core.Bool.{Bool, _||_}
 use mathlib.Core.List.{List, [], _∷_}
