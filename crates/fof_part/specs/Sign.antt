@@ -23,7 +23,7 @@ pub data Sign : Type 0 where
   colon : Sign
   dot : Sign
   every : Sign  -- !
-  exist : Sign  -- ?
+  exist : Sign  -- the question mark
   both : Sign  -- &
   either : Sign  -- |
   then : Sign  -- =>
