@@ -1,5 +1,6 @@
 // Whether a goal has a proof within a height, yes or no (document 01, "Which strip the search writes").
 mod hand;
+mod plain;
 mod provable;
 
 pub use hand::candidates;

@@ -5,8 +5,12 @@ use crate::hand::candidates;
 use crate::hand::clauses;
 use crate::hand::deeper;
 use crate::hand::open_clause;
-use force::Forced;
-use force::by_head;
+use crate::plain::Parts;
+use crate::plain::body_place;
+use crate::plain::parts;
+use crate::plain::settle;
+use crate::plain::unset_all;
+use crate::plain::word_of;
 use harrop::Binding;
 use heads::has_head;
 use packet::Word;
@@ -15,6 +19,7 @@ use room::Where;
 use room::bound;
 use room::further;
 use room::may_use;
+use room::part;
 use room::past_part;
 use room::plus;
 use room::push;
@@ -24,10 +29,13 @@ use room::supposes;
 use room::within;
 use room::word_there;
 use sexp::After;
-ghost use Prim.Native.Nat.{ℕ};
+use unset::holds;
+use unset::is_open;
+use unset::may_be;
 ghost use Rattle.packet.specs.declared.Word.the-variants as W;
 ghost use Rattle.room.specs.Where.{filesOf};
 ghost use Rattle.provable.specs.Proving.{Proving, ProvingAs, ProvingWith, ProvingBy, Passing, PassingAs, PassingWith};
+ghost use Rattle.provable.specs.Filling.{PassingParts, LookingBody, Looking, LookingAs, LookingOne, FillingFrom, FillingEach, FillingWith};
 
 // Whether the goal of a place has a proof of at most this height.
 pub fn prove_goal<'a>(
@@ -235,40 +243,205 @@ pub fn through<'a>(
     if nest == 0 {
         return false;
     }
+    let p = parts(rules, goal, terms, x, 0, 64);
+    if p.found {
+        return through_plain(rules, goal, terms, room, w, p, left);
+    }
     match word_there(rules, goal, terms, x) {
-        Word::Atom => same_atoms(rules, goal, terms, room, x, w.goal),
-        Word::Imp => through_imp(rules, goal, terms, room, w, x, left),
         Word::And => through_and(rules, goal, terms, room, w, x, nest - 1, left),
-        Word::All => through_all(rules, goal, terms, room, w, x, nest - 1, left),
+        Word::All => through_each(rules, goal, terms, room, w, x, nest - 1, left),
         _ => false,
     }
 }
 
-// A goal that implies an atom: the atom first, and only then the goal.
-fn through_imp<'a>(
+// A clause with no `and` on the way to its head, its variables not set yet.
+fn through_plain<'a>(
     rules: &'a [u8],
     goal: &'a [u8],
     terms: &'a [u8],
     room: &mut [u32],
     w: Where,
-    x: Spot,
+    p: Parts,
     left: usize,
 ) -> bool
-    ensures { λ r. ⌜ ((nest : ℕ) → PassingAs W.Imp (filesOf (now (rules .entry)) (now (goal .entry)) (now (terms .entry))) (now (room .entry)) (now (room .exit)) w x nest left r) ⌝ }
+    ensures { λ r. ⌜ PassingParts (filesOf (now (rules .entry)) (now (goal .entry)) (now (terms .entry))) (now (room .entry)) (now (room .exit)) w p left r ⌝ }
 {
-    let After::Next(n) = past_part(rules, goal, terms, x, 6) else {
-        return false;
-    };
-    if !same_atoms(rules, goal, terms, room, further(x, n), w.goal) {
+    unset_all(room, p.head, p.own);
+    if !may_be(rules, goal, terms, room, p.head, w.goal, p.own) {
         return false;
     }
-    let body = Where {
-        goal: further(x, 6),
-        supposed: w.supposed,
-        parameters: w.parameters,
-        top: plus(x.base, x.count),
+    if !settle(rules, goal, terms, room, w, p) {
+        return false;
+    }
+    if !look_body(rules, goal, terms, room, w, p, false, 0, left) {
+        return false;
+    }
+    fill(rules, goal, terms, room, w, p, p.own, left)
+}
+
+// The goals of the body, if there is one.
+fn look_body<'a>(
+    rules: &'a [u8],
+    goal: &'a [u8],
+    terms: &'a [u8],
+    room: &mut [u32],
+    w: Where,
+    p: Parts,
+    also: bool,
+    v: usize,
+    left: usize,
+) -> bool
+    ensures { λ r. ⌜ LookingBody (filesOf (now (rules .entry)) (now (goal .entry)) (now (terms .entry))) (now (room .entry)) (now (room .exit)) w p also v left r ⌝ }
+{
+    if !p.body {
+        return true;
+    }
+    look(rules, goal, terms, room, body_place(w, p), p.own, also, v, left)
+}
+
+// The goals of a body whose variables are set, and of these, if variable v is asked for, those that hold it: whether each has a proof.
+fn look<'a>(
+    rules: &'a [u8],
+    goal: &'a [u8],
+    terms: &'a [u8],
+    room: &mut [u32],
+    w: Where,
+    own: usize,
+    also: bool,
+    v: usize,
+    height: usize,
+) -> bool
+    ensures { λ r. ⌜ Looking (filesOf (now (rules .entry)) (now (goal .entry)) (now (terms .entry))) (now (room .entry)) (now (room .exit)) w own also v height r ⌝ }
+{
+    match word_there(rules, goal, terms, w.goal) {
+        Word::And => look_both(rules, goal, terms, room, w, own, also, v, height),
+        _ => look_one(rules, goal, terms, room, w, own, also, v, height),
+    }
+}
+
+// Both parts of an `and`.
+fn look_both<'a>(
+    rules: &'a [u8],
+    goal: &'a [u8],
+    terms: &'a [u8],
+    room: &mut [u32],
+    w: Where,
+    own: usize,
+    also: bool,
+    v: usize,
+    height: usize,
+) -> bool
+    ensures { λ r. ⌜ LookingAs W.And (filesOf (now (rules .entry)) (now (goal .entry)) (now (terms .entry))) (now (room .entry)) (now (room .exit)) w own also v height r ⌝ }
+{
+    if height == 0 {
+        return false;
+    }
+    let After::Next(n) = past_part(rules, goal, terms, w.goal, 6) else {
+        return false;
     };
-    prove_goal(rules, goal, terms, room, body, left)
+    if !look(rules, goal, terms, room, within(w, 6), own, also, v, height - 1) {
+        return false;
+    }
+    look(rules, goal, terms, room, within(w, n), own, also, v, height - 1)
+}
+
+// A goal that is no `and`: nothing is asked of it while it holds an unset variable, or if it was looked at before.
+fn look_one<'a>(
+    rules: &'a [u8],
+    goal: &'a [u8],
+    terms: &'a [u8],
+    room: &mut [u32],
+    w: Where,
+    own: usize,
+    also: bool,
+    v: usize,
+    height: usize,
+) -> bool
+    ensures { λ r. ⌜ LookingOne (filesOf (now (rules .entry)) (now (goal .entry)) (now (terms .entry))) (now (room .entry)) (now (room .exit)) w own also v height r ⌝ }
+{
+    let source = w.goal.source;
+    let s = part(rules, goal, terms, source, w.goal.at);
+    if holds(s, 0, 0, 64, room, w.goal, own, false, v) {
+        return true;
+    }
+    if also && !holds(s, 0, 0, 64, room, w.goal, own, true, v) {
+        return true;
+    }
+    prove_goal(rules, goal, terms, room, w, height)
+}
+
+// The frame completed, where only the first k variables may be unset.
+fn fill<'a>(
+    rules: &'a [u8],
+    goal: &'a [u8],
+    terms: &'a [u8],
+    room: &mut [u32],
+    w: Where,
+    p: Parts,
+    k: usize,
+    left: usize,
+) -> bool
+    ensures { λ r. ⌜ FillingFrom (filesOf (now (rules .entry)) (now (goal .entry)) (now (terms .entry))) (now (room .entry)) (now (room .exit)) w p k left r ⌝ }
+{
+    if k == 0 {
+        return same_atoms(rules, goal, terms, room, p.head, w.goal);
+    }
+    if is_open(room, p.head, p.own, k - 1) {
+        return fill_each(rules, goal, terms, room, w, p, k - 1, left);
+    }
+    fill(rules, goal, terms, room, w, p, k - 1, left)
+}
+
+// Variable v with one candidate after the other; if none does, it is unset again.
+fn fill_each<'a>(
+    rules: &'a [u8],
+    goal: &'a [u8],
+    terms: &'a [u8],
+    room: &mut [u32],
+    w: Where,
+    p: Parts,
+    v: usize,
+    left: usize,
+) -> bool
+    ensures { λ r. ⌜ FillingEach (filesOf (now (rules .entry)) (now (goal .entry)) (now (terms .entry))) (now (room .entry)) (now (room .exit)) w p v left r ⌝ }
+{
+    let n = candidates(room);
+    let mut i: u32 = 0;
+    while i < n {
+        if fill_with(rules, goal, terms, room, w, p, v, i, left) {
+            return true;
+        }
+        i += 1;
+    }
+    push(room, word_of(p.head, v), Binding::Candidate(2147483647));
+    false
+}
+
+// Variable v with candidate i, if it may be used.
+fn fill_with<'a>(
+    rules: &'a [u8],
+    goal: &'a [u8],
+    terms: &'a [u8],
+    room: &mut [u32],
+    w: Where,
+    p: Parts,
+    v: usize,
+    i: u32,
+    left: usize,
+) -> bool
+    ensures { λ r. ⌜ FillingWith (filesOf (now (rules .entry)) (now (goal .entry)) (now (terms .entry))) (now (room .entry)) (now (room .exit)) w p v i left r ⌝ }
+{
+    if !may_use(room, w.parameters, i as usize) {
+        return false;
+    }
+    push(room, word_of(p.head, v), Binding::Candidate(i));
+    if !may_be(rules, goal, terms, room, p.head, w.goal, p.own) {
+        return false;
+    }
+    if !look_body(rules, goal, terms, room, w, p, true, v, left) {
+        return false;
+    }
+    fill(rules, goal, terms, room, w, p, v, left)
 }
 
 // Both clauses of an `and`, left before right.
@@ -291,25 +464,6 @@ fn through_and<'a>(
         return true;
     }
     through(rules, goal, terms, room, w, further(x, n), nest, left)
-}
-
-// The clause of an `all`: the head decides before candidates are tried. Where it forces one on the variable, no other is tried (document 02, Three).
-fn through_all<'a>(
-    rules: &'a [u8],
-    goal: &'a [u8],
-    terms: &'a [u8],
-    room: &mut [u32],
-    w: Where,
-    x: Spot,
-    nest: usize,
-    left: usize,
-) -> bool
-    ensures { λ r. ⌜ PassingAs W.All (filesOf (now (rules .entry)) (now (goal .entry)) (now (terms .entry))) (now (room .entry)) (now (room .exit)) w x nest left r ⌝ }
-{
-    match by_head(rules, goal, terms, room, further(x, 6), w.goal, 0, nest) {
-        Forced::Candidate(i) => through_with(rules, goal, terms, room, w, x, i, nest, left),
-        Forced::Nothing => through_each(rules, goal, terms, room, w, x, nest, left),
-    }
 }
 
 // The clause of an `all`, with the first candidate for which a path through it ends well.

@@ -269,3 +269,18 @@ pub fn same_atoms<'a>(
         Begun::Rest(a, b) => same_rest(rules, goal, terms, room, a, b, 128),
     }
 }
+
+// Whether the terms at two spots are the same, where the first nests at most `nest` when its variables are replaced.
+pub fn same_terms<'a>(
+    rules: &'a [u8],
+    goal: &'a [u8],
+    terms: &'a [u8],
+    room: &[u32],
+    x: Spot,
+    y: Spot,
+    nest: usize,
+) -> bool
+    ensures { λ r. ⌜ SameTerms (now (rules .entry)) (now (goal .entry)) (now (terms .entry)) (now (room .entry)) x y nest r ⌝ }
+{
+    same(rules, goal, terms, room, x, y, nest)
+}

@@ -9,6 +9,7 @@ mod table;
 mod words;
 
 pub use equal::same_atoms;
+pub use equal::same_terms;
 pub use file::part;
 pub use file::suppose;
 pub use file::supposed;

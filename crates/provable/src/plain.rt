@@ -1,0 +1,132 @@
+// A clause with no `and` on the way to its one head, searched for an atom: its own variables are unset at first, those that the atom forces are set, and the others get one candidate after the other.
+// A goal of the body is looked at as soon as its variables are set, and only then (document 02, Three: no verdict and no strip changes).
+use crate::hand::deeper;
+use packet::Word;
+use room::Spot;
+use room::Where;
+use room::may_use;
+use unset::Forced;
+use unset::forced_by;
+use room::further;
+use room::past_part;
+use room::plus;
+use room::push;
+use room::word_there;
+use harrop::Binding;
+use sexp::After;
+ghost use Rattle.room.specs.Where.{filesOf};
+ghost use mathlib.Core.Path.{_≡_};
+ghost use Rattle.provable.specs.Parts.{PartsOf, variableWord, bodyPlace};
+ghost use Rattle.provable.specs.Filling.{Unsets, Settling};
+
+// Such a clause: how many variables of its own it has, whether it has a body, and where body and head stand, in the frame of all its variables.
+pub(crate) struct Parts {
+    pub found: bool,
+    pub own: usize,
+    pub body: bool,
+    pub goal: Spot,
+    pub head: Spot,
+}
+
+// No such clause.
+fn no_parts(x: Spot) -> Parts
+{
+    let a = x;
+    let b = x;
+    Parts {
+        found: false,
+        own: 0,
+        body: false,
+        goal: a,
+        head: b,
+    }
+}
+
+// The parts of the clause at a spot.
+pub(crate) fn parts<'a>(rules: &'a [u8], goal: &'a [u8], terms: &'a [u8], x: Spot, own: usize, nest: usize) -> Parts
+    ensures { λ r. ⌜ PartsOf (filesOf (now (rules .entry)) (now (goal .entry)) (now (terms .entry))) x own nest r ⌝ }
+{
+    if nest == 0 {
+        return no_parts(x);
+    }
+    match word_there(rules, goal, terms, x) {
+        Word::Atom => Parts {
+            found: true,
+            own,
+            body: false,
+            goal: x,
+            head: x,
+        },
+        Word::Imp => {
+            let After::Next(n) = past_part(rules, goal, terms, x, 6) else {
+                return no_parts(x);
+            };
+            Parts {
+                found: true,
+                own,
+                body: true,
+                goal: further(x, 6),
+                head: further(x, n),
+            }
+        }
+        Word::All => parts(rules, goal, terms, deeper(x, 6), plus(own, 1), nest - 1),
+        _ => no_parts(x),
+    }
+}
+
+// Where variable v of a frame is kept.
+pub(crate) fn word_of(x: Spot, v: usize) -> usize
+    ensures { λ r. ⌜ r ≡ variableWord x v ⌝ }
+{
+    if v < x.count {
+        return plus(x.base, x.count - 1 - v);
+    }
+    plus(x.base, x.count)
+}
+
+// The first variables of a frame are not set.
+pub(crate) fn unset_all(room: &mut [u32], x: Spot, own: usize)
+    ensures { λ r. ⌜ Unsets (now (room .entry)) (now (room .exit)) x own ⌝ }
+{
+    let mut v = 0;
+    while v < own {
+        push(room, word_of(x, v), Binding::Candidate(2147483647));
+        v += 1;
+    }
+}
+
+// The place of the body.
+pub(crate) fn body_place(w: Where, p: Parts) -> Where
+    ensures { λ r. ⌜ r ≡ bodyPlace w p ⌝ }
+{
+    let g = p.goal;
+    Where {
+        goal: g,
+        supposed: w.supposed,
+        parameters: w.parameters,
+        top: plus(g.base, g.count),
+    }
+}
+
+// The variables that the atom forces are set. No: one of them cannot be.
+pub(crate) fn settle<'a>(rules: &'a [u8], goal: &'a [u8], terms: &'a [u8], room: &mut [u32], w: Where, p: Parts) -> bool
+    ensures { λ r. ⌜ Settling (filesOf (now (rules .entry)) (now (goal .entry)) (now (terms .entry))) (now (room .entry)) (now (room .exit)) w p r ⌝ }
+{
+    let mut v = 0;
+    while v < p.own {
+        match forced_by(rules, goal, terms, room, p.head, w.goal, v) {
+            Forced::Nothing => {}
+            Forced::Never => {
+                return false;
+            }
+            Forced::Candidate(c) => {
+                if !may_use(room, w.parameters, c as usize) {
+                    return false;
+                }
+                push(room, word_of(p.head, v), Binding::Candidate(c));
+            }
+        }
+        v += 1;
+    }
+    true
+}

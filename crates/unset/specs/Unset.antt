@@ -1,0 +1,47 @@
+-- What is said of a formula in a frame in which some variables are not set yet (document 02, Three: the head decides before candidates are tried). That nothing said here depends on what the unset variables become is shown in crate provable.
+use Prim.Native.Nat.{ℕ, _≤_}
+use mathlib.Core.Path.{_≡_}
+use mathlib.Core.Bool.{Bool, true, false}
+use mathlib.Core.List.{List}
+use mathlib.Core.Option.{some}
+use lib.ListN.{length, getElem?}
+use Rattle.harrop.specs.declared.Binding.the-variants.{Candidate}
+use Rattle.harrop.specs.Formula.{Term, Atom, Goal, Clause}
+use Rattle.harrop.specs.Bindings.{Bindings, meant, valueOf, replacedAtom, sameAtom}
+use Rattle.harrop.specs.Place.{Plain}
+use Rattle.sexp.specs.Sexp.{Stands, nesting}
+use Rattle.packet.specs.Written.{termSexp, goalSexp, clauseSexp}
+use Rattle.packet.specs.Barred.{termOk, goalOk, clauseOk}
+use Rattle.packet.specs.File.{mostBytes}
+use Rattle.room.specs.Spot.{bindingsAt}
+use Rattle.room.specs.Table.{CandidatesIn}
+use Rattle.room.specs.Term.{AtomAt}
+use Rattle.room.specs.Where.{Files}
+use Rattle.room.specs.declared.Spot.{Spot}
+use Rattle.mentions.specs.Mentions.{insides, mentionsTerm, mentionsGoal, mentionsClause}
+use Rattle.mentions.specs.Open.{Becomes}
+use Rattle.unset.specs.declared.Forced.{Forced}
+use Rattle.unset.specs.declared.Forced.the-variants as F
+
+-- the answer is whether the term, the goal or the clause at an offset holds a variable with a property, asked so many quantifiers inside
+pub record Holding (s : List ℕ) (at depth nest : ℕ) (p : ℕ → Bool) (r : Bool) : Type 0 where
+  pub term : (t : Term) (holds : Bool) (around : ℕ) → Stands s at (termSexp t) → nesting (termSexp t) ≤ nest → length s ≤ mostBytes → depth ≤ mostBytes → termOk holds around t ≡ true → r ≡ mentionsTerm (insides depth p) t
+  pub goal : (g : Goal Plain) (around : ℕ) → Stands s at (goalSexp g) → nesting (goalSexp g) ≤ nest → length s ≤ mostBytes → depth ≤ mostBytes → goalOk around g ≡ true → r ≡ mentionsGoal (insides depth p) g
+  pub clause : (d : Clause Plain) (around : ℕ) → Stands s at (clauseSexp d) → nesting (clauseSexp d) ≤ nest → length s ≤ mostBytes → depth ≤ mostBytes → clauseOk around d ≡ true → r ≡ mentionsClause (insides depth p) d
+
+-- a no is a no whatever the frame becomes: the head at the first spot is not the atom at the second
+abbrev pub MayBe : Files → List ℕ → Spot → Spot → ℕ → Bool → Type 0
+MayBe f room x y own r =
+    (us : List Term) (b a : Atom) → CandidatesIn room (f .terms) us → AtomAt (f .rules) (f .goal) (f .terms) x b → AtomAt (f .rules) (f .goal) (f .terms) y a
+    → r ≡ false → (ds : Bindings) → Becomes us own (bindingsAt room x) ds → sameAtom (replacedAtom us ds b) (replacedAtom us (bindingsAt room y) a) ≡ false
+
+-- what is forced on variable v: whatever frame makes the head the atom gives the variable the candidate's term; or none does
+abbrev pub ForcedAs : List Term → Bindings → Atom → Atom → ℕ → Forced → Type 0
+ForcedAs us bs b a v F.Nothing = Unit {0}
+ForcedAs us bs b a v (F.Candidate c) = (ds : Bindings) → sameAtom (replacedAtom us ds b) (replacedAtom us bs a) ≡ true → valueOf us ds v ≡ meant us (Candidate c)
+ForcedAs us bs b a v F.Never = (ds : Bindings) (c : ℕ) (t : Term) → getElem? us c ≡ some t → valueOf us ds v ≡ t → sameAtom (replacedAtom us ds b) (replacedAtom us bs a) ≡ false
+
+abbrev pub Forces : Files → List ℕ → Spot → Spot → ℕ → Forced → Type 0
+Forces f room x y v r =
+    (us : List Term) (b a : Atom) → CandidatesIn room (f .terms) us → AtomAt (f .rules) (f .goal) (f .terms) x b → AtomAt (f .rules) (f .goal) (f .terms) y a
+    → ForcedAs us (bindingsAt room y) b a v r
