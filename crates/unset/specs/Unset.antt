@@ -13,10 +13,11 @@ use Rattle.sexp.specs.Sexp.{Stands, nesting}
 use Rattle.packet.specs.Written.{termSexp, goalSexp, clauseSexp}
 use Rattle.packet.specs.Barred.{termOk, goalOk, clauseOk}
 use Rattle.packet.specs.File.{mostBytes}
-use Rattle.room.specs.Spot.{bindingsAt}
+use Rattle.room.specs.Spot.{fileOf, bindingsAt}
 use Rattle.room.specs.Table.{CandidatesIn}
 use Rattle.room.specs.Term.{AtomAt}
 use Rattle.room.specs.Where.{Files}
+use Rattle.room.specs.declared.Source.{Source}
 use Rattle.room.specs.declared.Spot.{Spot}
 use Rattle.mentions.specs.Mentions.{insides, mentionsTerm, mentionsGoal, mentionsClause}
 use Rattle.mentions.specs.Open.{Becomes}
@@ -29,10 +30,14 @@ pub record Holding (s : List ℕ) (at depth nest : ℕ) (p : ℕ → Bool) (r : 
   pub goal : (g : Goal Plain) (around : ℕ) → Stands s at (goalSexp g) → nesting (goalSexp g) ≤ nest → length s ≤ mostBytes → depth ≤ mostBytes → goalOk around g ≡ true → r ≡ mentionsGoal (insides depth p) g
   pub clause : (d : Clause Plain) (around : ℕ) → Stands s at (clauseSexp d) → nesting (clauseSexp d) ≤ nest → length s ≤ mostBytes → depth ≤ mostBytes → clauseOk around d ≡ true → r ≡ mentionsClause (insides depth p) d
 
+-- no file is longer than refusal 1 lets it be
+abbrev pub Small : Files → Type 0
+Small f = (x : Source) → length (fileOf (f .rules) (f .goal) (f .terms) x) ≤ mostBytes
+
 -- a no is a no whatever the frame becomes: the head at the first spot is not the atom at the second
 abbrev pub MayBe : Files → List ℕ → Spot → Spot → ℕ → Bool → Type 0
 MayBe f room x y own r =
-    (us : List Term) (b a : Atom) → CandidatesIn room (f .terms) us → AtomAt (f .rules) (f .goal) (f .terms) x b → AtomAt (f .rules) (f .goal) (f .terms) y a
+    (us : List Term) (b a : Atom) → Small f → CandidatesIn room (f .terms) us → AtomAt (f .rules) (f .goal) (f .terms) x b → AtomAt (f .rules) (f .goal) (f .terms) y a
     → r ≡ false → (ds : Bindings) → Becomes us own (bindingsAt room x) ds → sameAtom (replacedAtom us ds b) (replacedAtom us (bindingsAt room y) a) ≡ false
 
 -- what is forced on variable v: whatever frame makes the head the atom gives the variable the candidate's term; or none does
@@ -43,5 +48,5 @@ ForcedAs us bs b a v F.Never = (ds : Bindings) (c : ℕ) (t : Term) → getElem?
 
 abbrev pub Forces : Files → List ℕ → Spot → Spot → ℕ → Forced → Type 0
 Forces f room x y v r =
-    (us : List Term) (b a : Atom) → CandidatesIn room (f .terms) us → AtomAt (f .rules) (f .goal) (f .terms) x b → AtomAt (f .rules) (f .goal) (f .terms) y a
+    (us : List Term) (b a : Atom) → Small f → CandidatesIn room (f .terms) us → AtomAt (f .rules) (f .goal) (f .terms) x b → AtomAt (f .rules) (f .goal) (f .terms) y a
     → ForcedAs us (bindingsAt room y) b a v r
