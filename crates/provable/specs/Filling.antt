@@ -14,6 +14,7 @@ use Rattle.packet.specs.declared.Word.{Word}
 use Rattle.packet.specs.declared.Word.the-variants as W
 use Rattle.packet.specs.Written.{goalSexp, atomSexp}
 use Rattle.packet.specs.Barred.{goalOk, atomOk}
+use Rattle.room.specs.Layout.{levels}
 use Rattle.room.specs.Frame.{bindingsIn}
 use Rattle.room.specs.Spot.{bindingsAt}
 use Rattle.room.specs.Where.{Files, Live, Kept, Framed}
@@ -211,6 +212,7 @@ pub record Starting (f : Files) (room : List ℕ) (ds : List (Clause Plain)) (us
   pub ready : Ready f room ds us w (suc left) o c bs (Goal.atom a)
   pub holds : bindingsIn room (p .head .base) (p .head .count - p .own) ≡ bs′
   pub own : p .own ≤ p .head .count
+  pub few : p .head .count ≤ levels
   pub parts : (after : List ℕ) → bindingsAt after (p .head) ≡ unsets (p .own) bs′ → PartsIn f after p e (unsets (p .own) bs′)
   pub fresh : p .head .base ≡ w .top
 

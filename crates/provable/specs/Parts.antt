@@ -43,16 +43,16 @@ CoreAt f r (Clause.allD q d) = ⊥
 CoreAt f r (Clause.andD c d) = ⊥
 
 -- the parts of the clause at a spot, where so many quantifiers were passed before; both are in the frame of all variables
-pub record PartsAt (f : Files) (x : Spot) (own : ℕ) (d : Clause Plain) (r : Parts) : Type 0 where
-  pub own : r .own ≡ own + quantifiers d
+pub record PartsAt (f : Files) (x : Spot) (passed : ℕ) (d : Clause Plain) (r : Parts) : Type 0 where
+  pub own : r .own ≡ passed + quantifiers d
   pub base : (r .head .base ≡ x .base) × (r .goal .base ≡ x .base)
   pub count : (r .head .count ≡ x .count + quantifiers d) × (r .goal .count ≡ x .count + quantifiers d)
   pub stands : CoreAt f r (core d)
 
 pub record PartsOf (f : Files) (x : Spot) (own nest : ℕ) (r : Parts) : Type 0 where
   pub few : r .own ≤ own + nest
-  pub told : (d : Clause Plain) → nesting (clauseSexp d) ≤ nest → nest ≤ mostBytes → ClauseThere f x d → x .count ≤ mostBytes → own ≤ mostBytes → r .found ≡ isPlain d
-  pub parts : (d : Clause Plain) → nesting (clauseSexp d) ≤ nest → nest ≤ mostBytes → ClauseThere f x d → x .count ≤ mostBytes → own ≤ mostBytes → r .found ≡ true → PartsAt f x own d r
+  pub told : (d : Clause Plain) → nesting (clauseSexp d) ≤ nest → ClauseThere f x d → x .count + nest ≤ mostBytes → own + nest ≤ mostBytes → r .found ≡ isPlain d
+  pub parts : (d : Clause Plain) → nesting (clauseSexp d) ≤ nest → ClauseThere f x d → x .count + nest ≤ mostBytes → own + nest ≤ mostBytes → r .found ≡ true → PartsAt f x own d r
 
 -- the word of the room that variable v of a frame is in
 abbrev pub variableWord : Spot → ℕ → ℕ

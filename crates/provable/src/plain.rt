@@ -43,7 +43,7 @@ fn no_parts(x: Spot) -> Parts
 }
 
 // The parts of the clause at a spot.
-pub(crate) fn parts<'a>(rules: &'a [u8], goal: &'a [u8], terms: &'a [u8], x: Spot, own: usize, nest: usize) -> Parts
+pub(crate) fn parts_of<'a>(rules: &'a [u8], goal: &'a [u8], terms: &'a [u8], x: Spot, own: usize, nest: usize) -> Parts
     ensures { λ r. ⌜ PartsOf (filesOf (now (rules .entry)) (now (goal .entry)) (now (terms .entry))) x own nest r ⌝ }
 {
     if nest == 0 {
@@ -69,7 +69,7 @@ pub(crate) fn parts<'a>(rules: &'a [u8], goal: &'a [u8], terms: &'a [u8], x: Spo
                 head: further(x, n),
             }
         }
-        Word::All => parts(rules, goal, terms, deeper(x, 6), plus(own, 1), nest - 1),
+        Word::All => parts_of(rules, goal, terms, deeper(x, 6), plus(own, 1), nest - 1),
         _ => no_parts(x),
     }
 }

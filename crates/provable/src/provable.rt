@@ -7,7 +7,7 @@ use crate::hand::deeper;
 use crate::hand::open_clause;
 use crate::plain::Parts;
 use crate::plain::body_place;
-use crate::plain::parts;
+use crate::plain::parts_of;
 use crate::plain::settle;
 use crate::plain::unset_all;
 use crate::plain::word_of;
@@ -243,7 +243,7 @@ pub fn through<'a>(
     if nest == 0 {
         return false;
     }
-    let p = parts(rules, goal, terms, x, 0, 64);
+    let p = parts_of(rules, goal, terms, x, 0, 64);
     if p.found {
         return through_plain(rules, goal, terms, room, w, p, left);
     }
