@@ -7,3 +7,4 @@ pub mod HeadlessLaws
 pub mod AlikeLaws
 pub mod ForcingLaws
 pub mod PassingLaws
+pub mod PlainLaws
