@@ -13,6 +13,7 @@ use sexp::past;
 ghost use mathlib.Core.Path.{_≡_};
 ghost use Rattle.room.specs.Spot.{bindingsAt};
 ghost use Rattle.mentions.specs.Open.{isUnset, isOpen, asked};
+ghost use Rattle.unset.specs.Held.{AsksAt, AroundAt};
 ghost use Rattle.unset.specs.Unset.{Holding};
 
 // Whether a binding says that its variable is not set: it names a candidate that no packet has.
@@ -56,6 +57,7 @@ fn asks_at(
     also: bool,
     v: usize,
 ) -> bool
+    ensures { λ r. ⌜ AsksAt (now (s .entry)) at depth (asked own (bindingsAt (now (room .entry)) x) also v) r ⌝ }
 {
     let Value::Is(i) = number(s, at) else {
         return false;
@@ -68,6 +70,7 @@ fn asks_at(
 
 // How many quantifiers are around the parts of the list that opens at an offset.
 fn around(s: &[u8], at: usize, depth: usize) -> usize
+    ensures { λ r. ⌜ AroundAt (now (s .entry)) at depth r ⌝ }
 {
     if is_word(s, plus(at, 1), b"all") {
         return plus(depth, 1);
@@ -92,7 +95,10 @@ pub fn holds(
 ) -> bool
     ensures { λ r. ⌜ Holding (now (s .entry)) at depth nest (asked own (bindingsAt (now (room .entry)) x) also v) r ⌝ }
 {
-    if nest == 0 || !opens(s, at) {
+    if nest == 0 {
+        return false;
+    }
+    if !opens(s, at) {
         return false;
     }
     if is_word(s, plus(at, 1), b"v") {
