@@ -4,7 +4,11 @@ pub mod ReadyLaws
 pub mod HandLaws
 pub mod ProvingLaws
 pub mod HeadlessLaws
+pub mod OccursLaws
 pub mod AlikeLaws
+pub mod CompletesLaws
+pub mod LookedLaws
+pub mod FillingLaws
 pub mod ForcingLaws
 pub mod PassingLaws
 pub mod PlainLaws

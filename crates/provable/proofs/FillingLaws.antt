@@ -1,0 +1,226 @@
+-- A clause with no `and` on the way to its head, searched with its variables unset at first: a path through it ends well exactly if its frame can be completed so that one does (document 02, Three: no verdict and no strip changes).
+-- A frame where an open variable is set to what the atom forces says as much as the frame before, and a no of the head or of the body is a no of the frame.
+use Prim.Native.Nat.{ℕ, zero, suc, _+_, _-_, _≤_, _<_}
+use mathlib.Core.Path.{_≡_, refl, sym, _∙_, ap, ap₂, subst}
+use mathlib.Core.Bool.{Bool, true, false, _&&_, _||_, false≢true}
+use mathlib.Core.List.{List, _∷_}
+use mathlib.Core.Option.{Option, none, some}
+use native.Mathlib.Omega.{arith}
+use lib.Dec.{eqb}
+use lib.ListN.{length, getElem?}
+use borrow.Author.Tests.{eqb-true, eqb-false}
+use Rattle.basics.specs.Choice.{both-true}
+use Rattle.harrop.specs.declared.Binding.{Binding}
+use Rattle.harrop.specs.declared.Binding.the-variants.{Candidate}
+use Rattle.harrop.specs.Formula.{Term, Atom, Goal, Clause}
+use Rattle.harrop.specs.Bindings.{Bindings, nothing, meant, valueOf, replacedAtom, sameAtom}
+use Rattle.harrop.specs.Place.{Hand, Plain, listed, allowed}
+use Rattle.room.specs.Frame.{boundTo}
+use Rattle.room.proofs.FrameLaws.{bound-means}
+use Rattle.mentions.specs.Open.{unset, isOpen, Becomes}
+use Rattle.provable.specs.Provable.{anyFrom, candidateDoes, candidatesFrom, through, ending, provable, serves}
+use Rattle.provable.specs.Proving.{passes}
+use Rattle.provable.specs.Filling.{alls, unsets, setTo, Completes, Fillable, FillableWith, LookedAll, LookedNew}
+use Rattle.provable.proofs.AlikeLaws.{passes-alike}
+use Rattle.provable.proofs.CompletesLaws.{may-is, may-below, may-too, open-below, set-open, set-twice, set-alike, completes-becomes, completes-only, completes-self, completes-less, completes-more, completes-swap, completes-with, completes-from}
+use Rattle.provable.proofs.LookedLaws.{looked-set, looked-whole}
+
+-- one that answers yes, found and given
+one-of : (f : ℕ → Bool) (i n : ℕ) → anyFrom f i n ≡ true → (j : ℕ) × (f j ≡ true)
+unfolding anyFrom
+one-of f i zero e = absurd (false≢true e)
+one-of f i (suc n) e = go (f i) refl (λ z. one-of f (suc i) n z)
+  where
+    go : (b : Bool) → f i ≡ b → (anyFrom f (suc i) n ≡ true → (j : ℕ) × (f j ≡ true)) → (j : ℕ) × (f j ≡ true)
+    go true h k = (i, h)
+    go false h k = k (ap (λ (b : Bool). b || anyFrom f (suc i) n) (sym h) ∙ e)
+
+or-true : (a b : Bool) → b ≡ true → a || b ≡ true
+or-true true b e = refl
+or-true false b e = e
+
+any-of : (f : ℕ → Bool) (i n j : ℕ) → i ≤ j → j < i + n → f j ≡ true → anyFrom f i n ≡ true
+unfolding anyFrom
+any-of f i zero j l m e = absurd (omega arith)
+any-of f i (suc n) j l m e = go (eqb i j) refl (λ z. any-of f (suc i) n j z (omega arith) e)
+  where
+    go : (b : Bool) → eqb i j ≡ b → (suc i ≤ j → anyFrom f (suc i) n ≡ true) → f i || anyFrom f (suc i) n ≡ true
+    go true h k = ap (λ (k : ℕ). f k || anyFrom f (suc i) n) (eqb-true i j h) ∙ ap (λ (b : Bool). b || anyFrom f (suc i) n) e
+    go false h k = let d = eqb-false i j h in or-true (f i) (anyFrom f (suc i) n) (k (omega arith))
+
+refuted : (b : Bool) → (b ≡ true → ⊥) → b ≡ false
+refuted true n = absurd (n refl)
+refuted false n = refl
+
+and-none : (b : Bool) → b && false ≡ false
+and-none true = refl
+and-none false = refl
+
+-- the head of a clause with no quantifier and no `and`
+abbrev pub HeadOf : Clause Plain → Atom → Type 0
+HeadOf (Clause.atomD b) h = b ≡ h
+HeadOf (Clause.impD g b) h = b ≡ h
+HeadOf (Clause.allD q d) h = ⊥
+HeadOf (Clause.andD d e) h = ⊥
+
+module _ (us : List Term) (left : ℕ) (o : List Plain) (c : Hand Plain) (bs : Bindings) (a : Atom) where
+  -- so many quantifiers around a clause
+  alls-yes : (m : ℕ) (e : Clause Plain) (bs′ : Bindings) → passes us left o c bs a (alls m e) bs′ ≡ true → (ds : Bindings) × Completes us o m (unsets m bs′) ds × (passes us left o c bs a e ds ≡ true)
+  unfolding through candidatesFrom candidateDoes
+  alls-yes zero e bs′ p = (bs′, refl, p)
+  alls-yes (suc m) e bs′ p =
+      let try : ℕ → Bool = λ i. passes us left o c bs a (alls m e) (Candidate i ∷ bs′) in
+      let (i, q) = one-of (candidateDoes (listed us) o tt try) 0 (length us - 0) p in
+      let (w, y) = both-true (allowed (listed us) o tt i) (try i) q in
+      let (ds, k, r) = alls-yes m e (Candidate i ∷ bs′) y in
+      (ds, completes-with us o m i bs′ ds w k, r)
+
+  alls-of : (m : ℕ) (e : Clause Plain) (bs′ ds : Bindings) → Completes us o m (unsets m bs′) ds → passes us left o c bs a e ds ≡ true → passes us left o c bs a (alls m e) bs′ ≡ true
+  unfolding through candidatesFrom candidateDoes
+  alls-of zero e bs′ ds k p = ap (λ (z : Bindings). passes us left o c bs a e z) (sym k) ∙ p
+  alls-of (suc m) e bs′ ds k p =
+      let try : ℕ → Bool = λ i. passes us left o c bs a (alls m e) (Candidate i ∷ bs′) in
+      let (i, w, k′) = completes-from us o m bs′ ds k in
+      let l = may-below us o i w in
+      any-of (candidateDoes (listed us) o tt try) 0 (length us - 0) i (omega arith) (omega (arith, l)) (ap₂ _&&_ w (alls-of m e (Candidate i ∷ bs′) ds k′ p))
+
+  -- what is said of its frame with all of them unset is said of the whole clause
+  pub alls-fillable : (m : ℕ) (e : Clause Plain) (bs′ : Bindings) (r : Bool) → Fillable us left o c bs a e m (unsets m bs′) r → r ≡ passes us left o c bs a (alls m e) bs′
+  alls-fillable m e bs′ true f = let (ds, k, p) = f .yes refl in sym (alls-of m e bs′ ds k p)
+  alls-fillable m e bs′ false f =
+      sym (refuted (passes us left o c bs a (alls m e) bs′) (λ z. let (ds, k, p) = alls-yes m e bs′ z in false≢true (sym (f .no refl ds k) ∙ p)))
+
+  -- where the head is not the atom, a path does not end well
+  pub head-no : (e : Clause Plain) (b : Atom) (ds : Bindings) → HeadOf e b → sameAtom (replacedAtom us ds b) (replacedAtom us bs a) ≡ false → passes us left o c bs a e ds ≡ false
+  unfolding through ending
+  head-no (Clause.atomD b′) b ds h s = ap (λ (z : Atom). sameAtom (replacedAtom us ds z) (replacedAtom us bs a)) h ∙ s
+  head-no (Clause.impD g b′) b ds h s =
+      ap (λ (x : Bool). x && provable (listed us) left o c ds g) (ap (λ (z : Atom). sameAtom (replacedAtom us ds z) (replacedAtom us bs a)) h ∙ s)
+  head-no (Clause.allD q d) b ds h s = absurd h
+  head-no (Clause.andD d e) b ds h s = absurd h
+
+  head-yes : (e : Clause Plain) (b : Atom) (ds : Bindings) → HeadOf e b → passes us left o c bs a e ds ≡ true → sameAtom (replacedAtom us ds b) (replacedAtom us bs a) ≡ true
+  head-yes e b ds h p = go (sameAtom (replacedAtom us ds b) (replacedAtom us bs a)) refl
+    where
+      go : (x : Bool) → sameAtom (replacedAtom us ds b) (replacedAtom us bs a) ≡ x → sameAtom (replacedAtom us ds b) (replacedAtom us bs a) ≡ true
+      go true s = s
+      go false s = absurd (false≢true (sym (head-no e b ds h s) ∙ p))
+
+  module _ (e : Clause Plain) (m : ℕ) (fr : Bindings) where
+    pub never-fills : ((ds : Bindings) → Completes us o m fr ds → passes us left o c bs a e ds ≡ false) → Fillable us left o c bs a e m fr false
+    never-fills n = record { yes = λ z. absurd (false≢true z); no = λ z. n }
+
+    -- the head is not the atom, whatever the frame becomes
+    pub head-differs : (b : Atom) → HeadOf e b → ((ds : Bindings) → Becomes us m fr ds → sameAtom (replacedAtom us ds b) (replacedAtom us bs a) ≡ false) → Fillable us left o c bs a e m fr false
+    head-differs b h n = never-fills (λ ds k. head-no e b ds h (n ds (completes-becomes us o m fr ds k)))
+
+  -- the body has no proof, whatever the frame becomes
+  pub body-lacks : (g : Goal Plain) (b : Atom) (m : ℕ) (fr : Bindings) → ((ds : Bindings) → Completes us o m fr ds → provable (listed us) left o c ds g ≡ false) → Fillable us left o c bs a (Clause.impD g b) m fr false
+  unfolding through ending
+  body-lacks g b m fr n =
+      never-fills (Clause.impD g b) m fr
+      (λ ds k. let s : Bool = sameAtom (replacedAtom us ds b) (replacedAtom us bs a) in ap (λ (x : Bool). s && x) (n ds k) ∙ and-none s)
+
+  -- variable v is open, and the atom forces something on it
+  module _ (e : Clause Plain) (b : Atom) (m : ℕ) (fr : Bindings) (v : ℕ) (h : HeadOf e b) (u : isOpen m fr v ≡ true) where
+    unset-again : (ds : Bindings) → Completes us o m fr ds → Completes us o m (setTo v unset fr) ds
+    unset-again ds k = subst (λ (z : Bindings). Completes us o m z ds) (sym (set-open m fr v u)) k
+
+    pub forced-set : (i : ℕ) (s : Bool) → ((ds : Bindings) → sameAtom (replacedAtom us ds b) (replacedAtom us bs a) ≡ true → valueOf us ds v ≡ meant us (Candidate i)) → allowed (listed us) o tt i ≡ true
+        → Fillable us left o c bs a e m (setTo v (Candidate i) fr) s → Fillable us left o c bs a e m fr s
+    forced-set i s forced w f =
+        record {
+          yes = λ z.
+              let (ds, k, p) = f .yes z in
+              (ds, subst (λ (x : Bindings). Completes us o m x ds) (set-open m fr v u) (completes-less us o m v i fr ds (open-below m fr v u .0) w k), p);
+          no = λ z ds k. refuted (passes us left o c bs a e ds) (λ p.
+              let same = passes-alike (listed us) left o c a bs e ds (setTo v (Candidate i) ds) (set-alike us v (Candidate i) ds (forced ds (head-yes e b ds h p))) in
+              let none = f .no z (setTo v (Candidate i) ds) (completes-swap us o m v i fr ds (open-below m fr v u .0) w (unset-again ds k)) in
+              false≢true (sym none ∙ (sym same ∙ p)));
+        }
+
+    -- a candidate that may not be used
+    pub forced-barred : (i : ℕ) → ((k : ℕ) (t : Term) → getElem? us k ≡ some t → t ≡ nothing → ⊥) → ((ds : Bindings) → sameAtom (replacedAtom us ds b) (replacedAtom us bs a) ≡ true → valueOf us ds v ≡ meant us (Candidate i)) → allowed (listed us) o tt i ≡ false
+        → Fillable us left o c bs a e m fr false
+    forced-barred i real forced n =
+        never-fills e m fr (λ ds k. refuted (passes us left o c bs a e ds) (λ p.
+        let (j, w, s, k′) = completes-more us o m v fr ds (open-below m fr v u .0) (unset-again ds k) in
+        let same = ap (meant us) (sym s) ∙ bound-means us ds v ∙ forced ds (head-yes e b ds h p) in
+        false≢true (sym n ∙ may-too us o j i real w same)))
+
+    -- no candidate does
+    pub forced-never : ((ds : Bindings) (i : ℕ) (t : Term) → getElem? us i ≡ some t → valueOf us ds v ≡ t → sameAtom (replacedAtom us ds b) (replacedAtom us bs a) ≡ false) → Fillable us left o c bs a e m fr false
+    forced-never n =
+        never-fills e m fr (λ ds k.
+        let (j, w, s, k′) = completes-more us o m v fr ds (open-below m fr v u .0) (unset-again ds k) in
+        let (t, q) = may-is us o j w in
+        head-no e b ds h (n ds j t q (sym (bound-means us ds v) ∙ ap (meant us) s ∙ means j t q)))
+      where
+        stands-for : Option Term → Term
+        stands-for x = elim x [ none ↦ nothing | some t ↦ t ]
+
+        means : (j : ℕ) (t : Term) → getElem? us j ≡ some t → meant us (Candidate j) ≡ t
+        means j t q = ap stands-for q
+
+  module _ (e : Clause Plain) (m : ℕ) (fr : Bindings) (v : ℕ) where
+    -- with candidate i
+    pub with-barred : (i : ℕ) → allowed (listed us) o tt i ≡ false → FillableWith us left o c bs a e m v i fr false
+    with-barred i n = record { yes = λ z. absurd (false≢true z); no = λ z w. absurd (false≢true (sym n ∙ w)) }
+
+    pub with-goes : (i : ℕ) (r : Bool) → v < m → allowed (listed us) o tt i ≡ true → Fillable us left o c bs a e m (setTo v (Candidate i) fr) r → FillableWith us left o c bs a e m v i fr r
+    with-goes i r l w f =
+        record {
+          yes = λ z. let (ds, k, p) = f .yes z in (ds, completes-less us o m v i fr ds l w k, p);
+          no = λ z w′. f .no z;
+        }
+
+    -- whatever stands there
+    pub with-any : (i : ℕ) (d : Binding) (r : Bool) → FillableWith us left o c bs a e m v i (setTo v d fr) r → FillableWith us left o c bs a e m v i fr r
+    with-any i d r f =
+        record {
+          yes = λ z. let (ds, k, p) = f .yes z in (ds, subst (λ (x : Bindings). Completes us o m x ds) (set-twice v unset d fr) k, p);
+          no = λ z w ds k. f .no z w ds (subst (λ (x : Bindings). Completes us o m x ds) (sym (set-twice v (Candidate i) d fr)) k);
+        }
+
+    -- one candidate after the other
+    pub each-hit : (i : ℕ) → isOpen m fr v ≡ true → FillableWith us left o c bs a e m v i fr true → Fillable us left o c bs a e m fr true
+    each-hit i u f =
+        record {
+          yes = λ z. let (ds, k, p) = f .yes refl in (ds, subst (λ (x : Bindings). Completes us o m x ds) (set-open m fr v u) k, p);
+          no = λ z. absurd (false≢true (sym z));
+        }
+
+    pub each-done : isOpen m fr v ≡ true → ((i : ℕ) → i < length us → FillableWith us left o c bs a e m v i fr false) → Fillable us left o c bs a e m fr false
+    each-done u f =
+        never-fills e m fr (λ ds k.
+        let (i, w, s, k′) = completes-more us o m v fr ds (open-below m fr v u .0) (subst (λ (z : Bindings). Completes us o m z ds) (sym (set-open m fr v u)) k) in
+        f i (may-below us o i w) .no refl w ds k′)
+
+  -- nothing is open: the body has a proof, and the head decides
+  ends-well : (e : Clause Plain) (b : Atom) (m : ℕ) (fr : Bindings) → ((i : ℕ) → isOpen m fr i ≡ false) → HeadOf e b → LookedAll us left o c m e fr → sameAtom (replacedAtom us fr b) (replacedAtom us bs a) ≡ true → passes us left o c bs a e fr ≡ true
+  unfolding through ending
+  ends-well (Clause.atomD b′) b m fr n h k s = ap (λ (z : Atom). sameAtom (replacedAtom us fr z) (replacedAtom us bs a)) h ∙ s
+  ends-well (Clause.impD g b′) b m fr n h k s = ap₂ _&&_ (ap (λ (z : Atom). sameAtom (replacedAtom us fr z) (replacedAtom us bs a)) h ∙ s) (looked-whole us o c m fr n left g k)
+  ends-well (Clause.allD q d) b m fr n h k s = absurd h
+  ends-well (Clause.andD d e) b m fr n h k s = absurd h
+
+  pub filled : (e : Clause Plain) (b : Atom) (m : ℕ) (fr : Bindings) (r : Bool) → HeadOf e b → m ≤ length fr → ((i : ℕ) → isOpen m fr i ≡ false) → LookedAll us left o c m e fr → r ≡ sameAtom (replacedAtom us fr b) (replacedAtom us bs a) → Fillable us left o c bs a e m fr r
+  filled e b m fr r h l n k s =
+      record {
+        yes = λ z. (fr, completes-self us o m fr l n, ends-well e b m fr n h k (sym s ∙ z));
+        no = λ z ds q. ap (λ (x : Bindings). passes us left o c bs a e x) (completes-only us o m fr ds n q) ∙ head-no e b fr h (sym s ∙ z);
+      }
+
+  -- the goals of the body, once variable v is set
+  pub looked-all : (e : Clause Plain) (m v : ℕ) (d d′ : Binding) (fr : Bindings) → LookedAll us left o c m e (setTo v d fr) → LookedNew us left o c m true v e (setTo v d′ fr) → LookedAll us left o c m e (setTo v d′ fr)
+  looked-all (Clause.atomD b) m v d d′ fr k l = tt
+  looked-all (Clause.impD g b) m v d d′ fr k l = looked-set us o c m v d d′ fr left g k l
+  looked-all (Clause.allD q x) m v d d′ fr k l = tt
+  looked-all (Clause.andD x y) m v d d′ fr k l = tt
+
+  -- and at first, when none is asked for
+  pub looked-start : (e : Clause Plain) (m : ℕ) (fr : Bindings) → LookedNew us left o c m false 0 e fr → LookedAll us left o c m e fr
+  looked-start (Clause.atomD b) m fr l = tt
+  looked-start (Clause.impD g b) m fr l = l
+  looked-start (Clause.allD q d) m fr l = tt
+  looked-start (Clause.andD d d′) m fr l = tt
