@@ -15,12 +15,13 @@ use Rattle.harrop.specs.declared.Binding.the-variants.{Candidate}
 use Rattle.harrop.specs.Formula.{Term, Atom, Goal, Clause}
 use Rattle.harrop.specs.Bindings.{Bindings, nothing, meant, valueOf, replacedAtom, sameAtom}
 use Rattle.harrop.specs.Place.{Hand, Plain, listed, allowed}
-use Rattle.room.specs.Frame.{boundTo}
+use Rattle.room.specs.Where.{Files}
 use Rattle.room.proofs.FrameLaws.{bound-means}
 use Rattle.mentions.specs.Open.{unset, isOpen, Becomes}
-use Rattle.provable.specs.Provable.{anyFrom, candidateDoes, candidatesFrom, through, ending, provable, serves}
+use Rattle.provable.specs.Provable.{anyFrom, candidateDoes, candidatesFrom, through, ending, provable}
 use Rattle.provable.specs.Proving.{passes}
-use Rattle.provable.specs.Filling.{alls, unsets, setTo, Completes, Fillable, FillableWith, LookedAll, LookedNew}
+use Rattle.provable.specs.Filling.{alls, unsets, setTo, Completes, Fillable, FillableWith, LookedAll, LookedNew, HeadIn, PartsIn}
+use Rattle.provable.specs.declared.plain.Parts.{Parts}
 use Rattle.provable.proofs.AlikeLaws.{passes-alike}
 use Rattle.provable.proofs.CompletesLaws.{may-is, may-below, may-too, open-below, set-open, set-twice, set-alike, completes-becomes, completes-only, completes-self, completes-less, completes-more, completes-swap, completes-with, completes-from}
 use Rattle.provable.proofs.LookedLaws.{looked-set, looked-whole}
@@ -62,6 +63,12 @@ HeadOf (Clause.atomD b) h = b ≡ h
 HeadOf (Clause.impD g b) h = b ≡ h
 HeadOf (Clause.allD q d) h = ⊥
 HeadOf (Clause.andD d e) h = ⊥
+
+pub parts-head : (f : Files) (room : List ℕ) (p : Parts) (e : Clause Plain) (fr : Bindings) → PartsIn f room p e fr → (b : Atom) × HeadOf e b × HeadIn f room p b fr
+parts-head f room p (Clause.atomD b) fr h = (b, refl, h .1)
+parts-head f room p (Clause.impD g b) fr h = (b, refl, h .1)
+parts-head f room p (Clause.allD q d) fr h = absurd h
+parts-head f room p (Clause.andD d e) fr h = absurd h
 
 module _ (us : List Term) (left : ℕ) (o : List Plain) (c : Hand Plain) (bs : Bindings) (a : Atom) where
   -- so many quantifiers around a clause

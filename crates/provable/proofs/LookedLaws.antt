@@ -5,17 +5,17 @@ use mathlib.Core.Path.{_≡_, refl, sym, _∙_, ap, ap₂}
 use mathlib.Core.Bool.{Bool, true, false, _&&_, _||_, false≢true}
 use mathlib.Core.List.{List}
 use lib.Dec.{eqb}
-use borrow.Author.Tests.{eqb-false, eq-eqb, ne-eqb}
+use borrow.Author.Tests.{eq-eqb}
 use Rattle.harrop.specs.declared.Binding.{Binding}
 use Rattle.harrop.specs.Formula.{Term, Goal}
-use Rattle.harrop.specs.Bindings.{Bindings, valueOf}
+use Rattle.harrop.specs.Bindings.{Bindings}
 use Rattle.harrop.specs.Place.{Hand, Plain, listed}
 use Rattle.packet.specs.declared.Word.the-variants as W
 use Rattle.heads.specs.Heads.{goalWord}
 use Rattle.mentions.specs.Mentions.{mentionsGoal}
 use Rattle.mentions.specs.Open.{isOpen, asked, Becomes}
 use Rattle.provable.specs.Provable.{provable}
-use Rattle.provable.specs.Filling.{setTo, Completes, Due, LookedOne, Looked, Looks}
+use Rattle.provable.specs.Filling.{setTo, Due, LookedOne, Looked, Looks}
 use Rattle.provable.proofs.OccursLaws.{or-false, Fewer, goal-fewer, goal-never}
 use Rattle.provable.proofs.AlikeLaws.{AlikeBut, hands-same, provable-but}
 use Rattle.provable.proofs.CompletesLaws.{completes-becomes, open-there, value-there}
