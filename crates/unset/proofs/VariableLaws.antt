@@ -4,7 +4,7 @@ use mathlib.Core.Path.{_≡_, refl, sym, _∙_, ap, ap₂, subst}
 use mathlib.Core.Bool.{Bool, true, false, _&&_, _||_, false≢true}
 use mathlib.Core.List.{List}
 use native.Mathlib.Omega.{arith}
-use lib.Dec.{eqb, ltb}
+use lib.Dec.{eqb}
 use lib.ListN.{length, getD}
 use borrow.Author.Tests.{eqb-true, eqb-false, ltb-true, lt-ltb, le-ltb}
 use Rattle.basics.specs.Choice.{choose, both-true}
@@ -19,14 +19,14 @@ use Rattle.sexp.specs.declared.skip.After.{After}
 use Rattle.sexp.specs.declared.skip.After.the-variants as A
 use Rattle.sexp.specs.declared.words.Value.{Value}
 use Rattle.sexp.specs.declared.words.Value.the-variants as Val
-use Rattle.sexp.specs.Decimal.{decimalOnto, decimal}
+use Rattle.sexp.specs.Decimal.{decimalOnto}
 use Rattle.sexp.specs.Sexp.{Sexp, Sexps, str, hinted, list, nil, cons, spell, Stands, StandsAll, nesting, nestings}
 use Rattle.sexp.specs.Past.{PastAt}
 use Rattle.sexp.specs.Words.{isNumber, worth}
 use Rattle.sexp.specs.WordsAt.{Numeral, NumberAt}
 use Rattle.sexp.proofs.AnswerLaws.{past-next, past-nothing}
 use Rattle.sexp.proofs.FoundLaws.{ends-others}
-use Rattle.sexp.proofs.StandLaws.{stands-inside, stands-before, stands-once, string-once, list-opens, members-stand, first-stands, others-stand, none-closes, opens-list, no-closing, closes-none, closes-not}
+use Rattle.sexp.proofs.StandLaws.{stands-inside, stands-before, stands-once, string-once, list-opens, members-stand, first-stands, others-stand, none-closes, opens-list, no-closing, closes-none}
 use Rattle.sexp.proofs.WordLaws.{worth-decimal, decimal-is}
 use Rattle.sexp.proofs.WordsAtLaws.{number-is, number-nothing}
 use Rattle.packet.specs.Barred.{Holds, termOk, termsOk, atomOk, goalOk, clauseOk}

@@ -2,7 +2,7 @@
 -- That these are the variables that the term, the goal or the clause mentions which is written so is shown in proofs/VariableLaws.
 use Prim.Native.Nat.{ℕ, _+_, _≤_}
 use mathlib.Core.Path.{_≡_}
-use mathlib.Core.Bool.{Bool, true, false, _&&_, _||_}
+use mathlib.Core.Bool.{Bool, false, _&&_, _||_}
 use mathlib.Core.List.{List}
 use Rattle.basics.specs.Choice.{choose}
 use Rattle.basics.specs.Text.{octets}
