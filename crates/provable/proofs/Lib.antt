@@ -12,3 +12,5 @@ pub mod FillingLaws
 pub mod ForcingLaws
 pub mod PassingLaws
 pub mod PlainLaws
+pub mod PartsLaws
+pub mod SettleLaws

@@ -1,20 +1,18 @@
 -- The frame of a clause whose variables are set one after the other: what a written variable leaves in it and around it, and that the clause and the atom still stand (document 02, Three; document 01, "When a strip fits").
-use Prim.Native.Nat.{ℕ, zero, suc, _+_, _-_, _≤_, _<_, min}
+use Prim.Native.Nat.{ℕ, zero, suc, _+_, _-_, _≤_, _<_}
 use native.Mathlib.Omega.{arith}
 use mathlib.Core.Path.{_≡_, refl, sym, _∙_, ap, ap₂, subst}
-use mathlib.Core.Bool.{Bool, true, false}
+use mathlib.Core.Bool.{Bool, true}
 use mathlib.Core.List.{List, [], _∷_}
-use lib.Dec.{ltb}
 use lib.ListN.{length, getD, set, length-set}
 use lib.Seq.{getD-set-other}
-use borrow.Author.Tests.{lt-ltb}
+use borrow.Author.Tests.{lt-ltb, le-ltb}
 use Rattle.basics.specs.Choice.{choose}
 use Rattle.harrop.specs.declared.Binding.{Binding}
 use Rattle.harrop.specs.Formula.{Term, Atom, Goal, Clause}
 use Rattle.harrop.specs.Bindings.{Bindings}
 use Rattle.harrop.specs.Place.{Hand, Plain}
 use Rattle.sexp.specs.Sexp.{Sexp}
-use Rattle.packet.specs.Written.{atomSexp, goalSexp}
 use Rattle.packet.specs.Barred.{atomOk, goalOk}
 use Rattle.room.specs.Layout.{words, levels, stack}
 use Rattle.room.specs.Frame.{bindingWord, bindingOf, held, bindingsIn}
@@ -25,7 +23,7 @@ use Rattle.room.specs.declared.Spot.{Spot}
 use Rattle.room.specs.declared.Where.{Where}
 use Rattle.room.proofs.AtomLaws.{atom-at}
 use Rattle.room.proofs.FrameLaws.{frame-pushed, frame-length, frames-alike}
-use Rattle.room.proofs.WhereLaws.{kept-less, framed-kept}
+use Rattle.room.proofs.WhereLaws.{kept-less}
 use Rattle.room.proofs.MoveLaws.{hand-higher}
 use Rattle.mentions.specs.Open.{unset}
 use Rattle.provable.specs.Proving.{Ready}
@@ -33,13 +31,7 @@ use Rattle.provable.specs.Parts.{variableWord, bodyPlace}
 use Rattle.provable.specs.Filling.{unsets, setTo, HeadIn, BodyIn, PartsIn, Filling, Unsets, Starting, floor}
 use Rattle.provable.specs.declared.plain.Parts.{Parts}
 use Rattle.provable.proofs.ReadyLaws.{ready-kept}
-
--- a frame with another binding for a variable is as long
-pub set-length : (v : ℕ) (d : Binding) (bs : Bindings) → length (setTo v d bs) ≡ length bs
-set-length zero d [] = refl
-set-length zero d (b ∷ bs) = refl
-set-length (suc v) d [] = refl
-set-length (suc v) d (b ∷ bs) = ap suc (set-length v d bs)
+use Rattle.provable.proofs.CompletesLaws.{set-long}
 
 -- unset variables before others: the next one is set to none
 pub unset-next : (v : ℕ) (b : Binding) (bs : Bindings) → setTo v unset (unsets v (b ∷ bs)) ≡ unsets (suc v) bs
@@ -66,6 +58,13 @@ word-in x v l h =
     ap (λ (t : Bool). choose t (plus (x .base) (x .count - 1 - v)) (plus (x .base) (x .count))) (lt-ltb v (x .count) l)
     ∙ omega arith
 
+-- and where the code keeps it
+pub word-here : (x : Spot) (v r : ℕ) → v < x .count → r ≡ plus (x .base) (x .count - 1 - v) → r ≡ variableWord x v
+word-here x v r l e = e ∙ ap (λ (t : Bool). choose t (plus (x .base) (x .count - 1 - v)) (plus (x .base) (x .count))) (sym (lt-ltb v (x .count) l))
+
+pub word-past : (x : Spot) (v r : ℕ) → x .count ≤ v → r ≡ plus (x .base) (x .count) → r ≡ variableWord x v
+word-past x v r l e = e ∙ ap (λ (t : Bool). choose t (plus (x .base) (x .count - 1 - v)) (plus (x .base) (x .count))) (sym (le-ltb v (x .count) l))
+
 pub frame-set : (room : List ℕ) (x : Spot) (v : ℕ) (d : Binding) → v < x .count → x .base + x .count ≤ length room → x .base + x .count ≤ 18446744073709551615 → bindingWord d ≤ 4294967295 → bindingsAt (set room (variableWord x v) (held (bindingWord d))) x ≡ setTo v d (bindingsAt room x)
 frame-set room x v d l h s f =
     ap (λ (i : ℕ). bindingsAt (set room i (held (bindingWord d))) x) (word-in x v l s)
@@ -83,6 +82,33 @@ below-stays room x supposed own v d l h s few above i (Live.low k) =
 below-stays room x supposed own v d l h s few above i (Live.high k k′) =
     let e = word-in x v (omega arith) s in
     others-stay room x v d i (λ q. omega arith)
+
+-- the first variables unset, one after the other
+pub unset-start : (room : List ℕ) (x : Spot) → Unsets room room x 0
+unset-start room x =
+    record {
+      long = refl;
+      holds = λ l h. ap (bindingsIn room (x .base)) {x = x .count} {y = x .count - 0} (omega arith);
+      kept = λ l h i k. refl;
+    }
+
+pub unset-more : (room now after : List ℕ) (x : Spot) (v y : ℕ) → length room ≤ 18446744073709551615 → y ≡ variableWord x v → after ≡ set now y (held (bindingWord unset)) → Unsets room now x v → Unsets room after x (v + 1)
+unfolding bindingsIn
+unset-more room now after x v y small i e u =
+    subst (λ (r : List ℕ). Unsets room r x (v + 1)) (sym (e ∙ ap (λ (k : ℕ). set now k (held (bindingWord unset))) i))
+    (record {
+      long = length-set now (variableWord x v) (held (bindingWord unset)) ∙ u .long;
+      holds = λ l h.
+          let m = x .count - (v + 1) in
+          let b = bindingOf (getD room (x .base + m) 0) in
+          frame-set now x v unset (omega arith) (omega (arith, u .long)) (omega arith) (omega arith)
+          ∙ ap (setTo v unset) (u .holds (omega arith) h ∙ ap (λ (k : ℕ). unsets v (bindingsIn room (x .base) k)) {x = x .count - v} {y = suc m} (omega arith))
+          ∙ unset-next v b (bindingsIn room (x .base) m)
+          ∙ ap (λ (k : ℕ). unsets k (bindingsIn room (x .base) m)) {x = suc v} {y = v + 1} (omega arith);
+      kept = λ l h k q.
+          let z = word-in x v (omega arith) (omega arith) in
+          others-stay now x v unset k (λ s. omega arith) ∙ u .kept (omega arith) h k (omega arith);
+    })
 
 -- the head of the clause, with or without a body
 abbrev pub headOf : Clause Plain → Atom
@@ -170,7 +196,7 @@ module _ {f : Files} {room : List ℕ} {ds : List (Clause Plain)} {us : List Ter
         let holds = frame-set room (p .head) v d (omega (arith, t .own)) (omega (arith, n .1, t .ready .long)) (omega (arith, n .1)) small ∙ ap (setTo v d) frame-is in
         record {
           ready = ready-kept (kept-less room after (omega arith) (omega (arith, t .fresh)) write-keeps) (length-set room (variableWord (p .head) v) (held (bindingWord d))) (t .ready);
-          parts = parts-over f room after p e fr (setTo v d fr) holds (set-length v d fr) (t .parts);
+          parts = parts-over f room after p e fr (setTo v d fr) holds (set-long v d fr) (t .parts);
           own = t .own;
           fresh = t .fresh;
         }

@@ -1,20 +1,21 @@
 // A clause with no `and` on the way to its one head, searched for an atom: its own variables are unset at first, those that the atom forces are set, and the others get one candidate after the other.
 // A goal of the body is looked at as soon as its variables are set, and only then (document 02, Three: no verdict and no strip changes).
 use crate::hand::deeper;
+use harrop::Binding;
 use packet::Word;
 use room::Spot;
 use room::Where;
-use room::may_use;
-use unset::Forced;
-use unset::forced_by;
 use room::further;
+use room::may_use;
 use room::past_part;
 use room::plus;
 use room::push;
 use room::word_there;
-use harrop::Binding;
 use sexp::After;
+use unset::Forced;
+use unset::forced_by;
 ghost use Rattle.room.specs.Where.{filesOf};
+ghost use mathlib.Core.Bool.{false};
 ghost use mathlib.Core.Path.{_≡_};
 ghost use Rattle.provable.specs.Parts.{PartsOf, variableWord, bodyPlace};
 ghost use Rattle.provable.specs.Filling.{Unsets, Settling};
@@ -30,6 +31,7 @@ pub(crate) struct Parts {
 
 // No such clause.
 fn no_parts(x: Spot) -> Parts
+    ensures { λ r. ⌜ (r .found ≡ false) × (r .own ≡ 0) ⌝ }
 {
     let a = x;
     let b = x;
@@ -43,7 +45,14 @@ fn no_parts(x: Spot) -> Parts
 }
 
 // The parts of the clause at a spot.
-pub(crate) fn parts_of<'a>(rules: &'a [u8], goal: &'a [u8], terms: &'a [u8], x: Spot, own: usize, nest: usize) -> Parts
+pub(crate) fn parts_of<'a>(
+    rules: &'a [u8],
+    goal: &'a [u8],
+    terms: &'a [u8],
+    x: Spot,
+    own: usize,
+    nest: usize,
+) -> Parts
     ensures { λ r. ⌜ PartsOf (filesOf (now (rules .entry)) (now (goal .entry)) (now (terms .entry))) x own nest r ⌝ }
 {
     if nest == 0 {
@@ -109,13 +118,23 @@ pub(crate) fn body_place(w: Where, p: Parts) -> Where
 }
 
 // The variables that the atom forces are set. No: one of them cannot be.
-pub(crate) fn settle<'a>(rules: &'a [u8], goal: &'a [u8], terms: &'a [u8], room: &mut [u32], w: Where, p: Parts) -> bool
+pub(crate) fn settle<'a>(
+    rules: &'a [u8],
+    goal: &'a [u8],
+    terms: &'a [u8],
+    room: &mut [u32],
+    w: Where,
+    p: Parts,
+) -> bool
     ensures { λ r. ⌜ Settling (filesOf (now (rules .entry)) (now (goal .entry)) (now (terms .entry))) (now (room .entry)) (now (room .exit)) w p r ⌝ }
 {
     let mut v = 0;
     while v < p.own {
         match forced_by(rules, goal, terms, room, p.head, w.goal, v) {
-            Forced::Nothing => {}
+            Forced::Nothing => {
+                v += 1;
+                continue;
+            }
             Forced::Never => {
                 return false;
             }
