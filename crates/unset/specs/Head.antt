@@ -23,12 +23,11 @@ use Rattle.room.specs.declared.Spot.{Spot}
 use Rattle.mentions.specs.Open.{Becomes}
 use Rattle.unset.specs.declared.Forced.{Forced}
 use Rattle.unset.specs.declared.Forced.the-variants as F
-use Rattle.unset.specs.Unset.{Small}
 
 -- a yes is a yes whatever the frame becomes: the term at the first spot is not the term at the second
 abbrev pub DiffersAt : Files → List ℕ → Spot → Spot → ℕ → Bool → Type 0
 DiffersAt f room x y own r =
-    (us : List Term) (t u : Term) → Small f → CandidatesIn room (f .terms) us → TermAt (f .rules) (f .goal) (f .terms) x t → TermAt (f .rules) (f .goal) (f .terms) y u
+    (us : List Term) (t u : Term) → CandidatesIn room (f .terms) us → TermAt (f .rules) (f .goal) (f .terms) x t → TermAt (f .rules) (f .goal) (f .terms) y u
     → r ≡ true → (ds : Bindings) → Becomes us own (bindingsAt room x) ds → sameTerm (replaced us ds t) (replaced us (bindingsAt room y) u) ≡ false
 
 -- where candidate i stands, by the room's table

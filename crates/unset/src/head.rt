@@ -98,13 +98,13 @@ fn candidates(room: &[u32]) -> u32
 }
 
 // Where candidate i starts in its file.
-fn start_of(room: &[u32], i: usize) -> usize
+fn start_of(room: &[u32], i: usize) -> u32
     ensures { λ r. ⌜ r ≡ getD (now (room .entry)) (258 + i) 0 ⌝ }
 {
     if 258 < room.len() {
         let left = room.len() - 258;
         if i < left {
-            return room[258 + i] as usize;
+            return room[258 + i];
         }
     }
     0
@@ -114,7 +114,7 @@ fn start_of(room: &[u32], i: usize) -> usize
 fn candidate_spot(room: &[u32], i: usize) -> Spot
     ensures { λ r. ⌜ r ≡ candidateSpot (now (room .entry)) i ⌝ }
 {
-    let at = start_of(room, i);
+    let at = start_of(room, i) as usize;
     Spot {
         source: Source::Terms,
         at: at,
@@ -130,7 +130,15 @@ fn lowest<'a>(rules: &'a [u8], goal: &'a [u8], terms: &'a [u8], room: &[u32], y:
     let n = candidates(room);
     let mut i: u32 = 0;
     while i < n {
-        if same_terms(rules, goal, terms, room, candidate_spot(room, i as usize), y, 128) {
+        if same_terms(
+            rules,
+            goal,
+            terms,
+            room,
+            candidate_spot(room, i as usize),
+            y,
+            128,
+        ) {
             return Forced::Candidate(i);
         }
         i += 1;

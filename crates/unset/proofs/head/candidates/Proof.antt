@@ -1,0 +1,24 @@
+-- `candidates` of src/head.rt meets its contract. Assumes nothing.
+use lib.ListN.{List·getD-eq-default}
+use mathlib.Core.Path.{sym}
+use native.Mathlib.Omega.{arith}
+use borrow.Author.Needs.{needs}
+use Rattle.unset.proofs.head.candidates.Statement.{statement}
+use Rattle.unset.proofs.head.candidates.Tie as tie
+use Rattle.unset.proofs.head.candidates.Reads as reads
+use Rattle.unset.proofs.head.candidates.Lts as lts
+
+-- src/head.rt:97:27
+shared-slice-read-result : tie.Need-shared-slice-read-result
+shared-slice-read-result c = search needs
+
+-- src/head.rt:94:1
+returns : tie.Need-returns
+returns c = search needs
+
+-- src/head.rt:94:1
+returns-2 : tie.Need-returns-2
+returns-2 c = sym (List·getD-eq-default (c .before .args .room .now) 0 (c .if1 .left))
+
+pub candidates-spec : {M : Type 1} → statement M
+candidates-spec = tie.close (tie.spec shared-slice-read-result returns returns-2)
