@@ -9,13 +9,13 @@ ghost use Rattle.fof_part.specs.Due.{taking};
 ghost use Rattle.fof_pass.specs.Ahead.{signsAt};
 ghost use Rattle.fof_pass.specs.Taking.{TakesTo};
 
-pub(crate) enum Taken {
+pub enum Taken {
     Nowhere,
     Next(usize),
 }
 
 // The place behind the sign of this number, if it is ahead.
-pub(crate) fn take(text: &[u8], at: usize, wanted: usize) -> Taken
+pub fn take(text: &[u8], at: usize, wanted: usize) -> Taken
     ensures { λ r. ⌜ (wanted < 16 → (ss : List Sign) → signsAt (now (text .entry)) at ≡ some ss → TakesTo (now (text .entry)) r (taking wanted ss)) ⌝ }
 {
     let a = sign_ahead(text, at);

@@ -1,0 +1,284 @@
+// What a due does with the sign ahead, as a plan: what is written, what is due then, and whether the sign is taken.
+use crate::chain::Chain;
+use crate::chain::First;
+use crate::chain::chain_ahead;
+use crate::dues::Due;
+use crate::dues::Sort;
+ghost use Prim.Native.Nat.{ℕ};
+ghost use mathlib.Core.Path.{_≡_};
+ghost use Rattle.fof_part.specs.Due.{Did, byChain, quantified, topped, unitAt, variableAt, behindAt, argumentsAt, termsAt, termAt};
+ghost use Rattle.fof_pass.specs.Dues.{sortIs, linkIs, quantifierIs};
+ghost use Rattle.fof_pass.specs.Chained.{chainIs};
+ghost use Rattle.fof_pass.specs.Planned.{PlansAs, Plans};
+
+// What is written.
+pub enum Writes {
+    Nothing,
+    // so many heads of `and` or of `or`
+    Heads { conj: bool, number: usize },
+    // the head of an implication
+    Implies,
+    // the head of `all` or of `some`, for the variable ahead
+    Binds(bool),
+    // the whole of `top`
+    Top,
+    // the head of an atom, or of a function, with the name ahead
+    Atom,
+    Function,
+    // the variable ahead, by its number
+    Variable,
+    // the end of a list; and the nearest variable is no longer bound
+    End,
+    Leaves,
+}
+
+pub struct Plan {
+    pub ok: bool,
+    pub takes: bool,
+    pub writes: Writes,
+    pub first: Due,
+    pub second: Due,
+    pub third: Due,
+    pub fourth: Due,
+}
+
+// Nothing can be done.
+fn refused() -> Plan
+{
+    Plan {
+        ok: false,
+        takes: false,
+        writes: Writes::Nothing,
+        first: Due::Nothing,
+        second: Due::Nothing,
+        third: Due::Nothing,
+        fourth: Due::Nothing,
+    }
+}
+
+// This is written, with nothing due then.
+fn writing(takes: bool, writes: Writes) -> Plan
+{
+    Plan {
+        ok: true,
+        takes,
+        writes,
+        first: Due::Nothing,
+        second: Due::Nothing,
+        third: Due::Nothing,
+        fourth: Due::Nothing,
+    }
+}
+
+// Two are due then, the first on top.
+fn leading(takes: bool, writes: Writes, first: Due, second: Due) -> Plan
+{
+    Plan {
+        ok: true,
+        takes,
+        writes,
+        first,
+        second,
+        third: Due::Nothing,
+        fourth: Due::Nothing,
+    }
+}
+
+// The sign is the one that is expected, or nothing can be done.
+fn taken(code: usize, wanted: usize, first: Due, second: Due, third: Due) -> Plan
+{
+    if code == wanted {
+        return Plan {
+            ok: true,
+            takes: true,
+            writes: Writes::Nothing,
+            first,
+            second,
+            third,
+            fourth: Due::Nothing,
+        };
+    }
+    refused()
+}
+
+// An implication, its left part of one sort and its right part of another.
+fn implied(left: Sort, right: Sort) -> Plan
+{
+    Plan {
+        ok: true,
+        takes: false,
+        writes: Writes::Implies,
+        first: Due::Unit(left),
+        second: Due::Arrow,
+        third: Due::Unit(right),
+        fourth: Due::Shut,
+    }
+}
+
+fn linked(conj: bool, sort: Sort, number: usize) -> Plan
+{
+    leading(
+        false,
+        Writes::Heads { conj, number },
+        Due::Unit(sort),
+        Due::More { conj, sort, number },
+    )
+}
+
+// A formula, by its chain.
+fn by_chain(sort: Sort, c: Chain) -> Plan
+    ensures { λ r. ⌜ ((code : ℕ) → PlansAs (byChain (sortIs sort) (chainIs (c .first) (c .number))) code (c .number) r) ⌝ }
+{
+    match c.first {
+        First::Lone => leading(false, Writes::Nothing, Due::Unit(sort), Due::Nothing),
+        First::Conj => match sort {
+            Sort::Goal => linked(true, Sort::Goal, c.number),
+            Sort::Clause => linked(true, Sort::Clause, c.number),
+            Sort::Head => refused(),
+        },
+        First::Disj => match sort {
+            Sort::Goal => linked(false, Sort::Goal, c.number),
+            _ => refused(),
+        },
+        First::Implied => match sort {
+            Sort::Goal => implied(Sort::Clause, Sort::Goal),
+            Sort::Clause => implied(Sort::Goal, Sort::Head),
+            Sort::Head => refused(),
+        },
+    }
+}
+
+fn quantified(every: bool, sort: Sort) -> Plan
+{
+    match sort {
+        Sort::Goal => leading(true, Writes::Nothing, Due::List { every, sort }, Due::Nothing),
+        Sort::Clause => {
+            if every {
+                return leading(true, Writes::Nothing, Due::List { every, sort }, Due::Nothing);
+            }
+            refused()
+        }
+        Sort::Head => refused(),
+    }
+}
+
+fn topped(sort: Sort) -> Plan
+{
+    match sort {
+        Sort::Goal => writing(true, Writes::Top),
+        _ => refused(),
+    }
+}
+
+fn unit(sort: Sort, code: usize) -> Plan
+    ensures { λ r. ⌜ PlansAs (unitAt (sortIs sort)) code 0 r ⌝ }
+{
+    if code == 0 {
+        return leading(true, Writes::Atom, Due::Arguments, Due::Shut);
+    }
+    if code == 2 {
+        return topped(sort);
+    }
+    if code == 3 {
+        return leading(true, Writes::Nothing, Due::Formula(sort), Due::Close);
+    }
+    if code == 10 {
+        return quantified(true, sort);
+    }
+    if code == 11 {
+        return quantified(false, sort);
+    }
+    refused()
+}
+
+fn more(conj: bool, sort: Sort, number: usize, code: usize) -> Plan
+{
+    if number == 0 {
+        return writing(false, Writes::Nothing);
+    }
+    let wanted = if conj { 12 } else { 13 };
+    taken(
+        code,
+        wanted,
+        Due::Unit(sort),
+        Due::Shut,
+        Due::More { conj, sort, number: number - 1 },
+    )
+}
+
+fn variable(every: bool, sort: Sort, code: usize) -> Plan
+    ensures { λ r. ⌜ PlansAs (variableAt (quantifierIs every) (sortIs sort)) code 0 r ⌝ }
+{
+    if code == 1 {
+        return leading(true, Writes::Binds(every), Due::Behind { every, sort }, Due::Leave);
+    }
+    refused()
+}
+
+fn behind(every: bool, sort: Sort, code: usize) -> Plan
+    ensures { λ r. ⌜ PlansAs (behindAt (quantifierIs every) (sortIs sort)) code 0 r ⌝ }
+{
+    if code == 7 {
+        return leading(true, Writes::Nothing, Due::Variable { every, sort }, Due::Nothing);
+    }
+    taken(code, 6, Due::Over(sort), Due::Nothing, Due::Nothing)
+}
+
+fn arguments(code: usize) -> Plan
+    ensures { λ r. ⌜ PlansAs argumentsAt code 0 r ⌝ }
+{
+    if code == 3 {
+        return leading(true, Writes::Nothing, Due::Term, Due::Terms);
+    }
+    writing(false, Writes::Nothing)
+}
+
+fn terms(code: usize) -> Plan
+    ensures { λ r. ⌜ PlansAs termsAt code 0 r ⌝ }
+{
+    if code == 7 {
+        return leading(true, Writes::Nothing, Due::Term, Due::Terms);
+    }
+    taken(code, 4, Due::Nothing, Due::Nothing, Due::Nothing)
+}
+
+fn term(code: usize) -> Plan
+    ensures { λ r. ⌜ PlansAs termAt code 0 r ⌝ }
+{
+    if code == 1 {
+        return writing(true, Writes::Variable);
+    }
+    if code == 0 {
+        return leading(true, Writes::Function, Due::Arguments, Due::Shut);
+    }
+    refused()
+}
+
+// What a due does at a place, where a sign of this number is ahead.
+pub fn plan_for(text: &[u8], at: usize, d: Due, code: usize) -> Plan
+    ensures { λ r. ⌜ Plans (now (text .entry)) at d code r ⌝ }
+{
+    match d {
+        Due::Nothing => refused(),
+        Due::Formula(s) => by_chain(s, chain_ahead(text, at)),
+        Due::Unit(s) => unit(s, code),
+        Due::More { conj, sort, number } => more(conj, sort, number, code),
+        Due::Arrow => taken(code, 14, Due::Nothing, Due::Nothing, Due::Nothing),
+        Due::Close => taken(code, 4, Due::Nothing, Due::Nothing, Due::Nothing),
+        Due::List { every, sort } => taken(
+            code,
+            5,
+            Due::Variable { every, sort },
+            Due::Nothing,
+            Due::Nothing,
+        ),
+        Due::Variable { every, sort } => variable(every, sort, code),
+        Due::Behind { every, sort } => behind(every, sort, code),
+        Due::Over(s) => taken(code, 8, Due::Unit(s), Due::Nothing, Due::Nothing),
+        Due::Arguments => arguments(code),
+        Due::Term => term(code),
+        Due::Terms => terms(code),
+        Due::Shut => writing(false, Writes::End),
+        Due::Leave => writing(false, Writes::Leaves),
+    }
+}
