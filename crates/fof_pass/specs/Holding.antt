@@ -2,13 +2,18 @@
 use Prim.Native.Nat.{ℕ, _+_, _*_, _<_, _≤_}
 use mathlib.Core.Path.{_≡_}
 use mathlib.Core.Bool.{Bool, true, false}
-use mathlib.Core.List.{List, _++_, _∷_}
+use mathlib.Core.List.{List, [], _∷_, _++_}
 use mathlib.Core.Option.{Option, none, some}
 use lib.ListN.{length}
-use Rattle.fof_truth.specs.Numbered.{Scope}
+use Rattle.basics.specs.Choice.{_>>=_, provided}
+use Rattle.basics.specs.Text.{octets}
+use Rattle.harrop.specs.Formula.{Name}
+use Rattle.sexp.specs.Decimal.{decimal}
+use Rattle.sexp.specs.Words.{isName}
+use Rattle.fof_truth.specs.Numbered.{Scope, numberOf}
 use Rattle.fof_part.specs.Sign.{Sign}
 use Rattle.fof_part.specs.Mark.{Mark}
-use Rattle.fof_part.specs.Due.{Due, Did, Ran, Sort, dueAt, costs, formulaAt}
+use Rattle.fof_part.specs.Due.{Due, Did, Ran, Sort, dueAt, costs, formulaAt, headed}
 use Rattle.fof_pass.specs.declared.ink.Pen.{Pen}
 use Rattle.fof_pass.specs.declared.ahead.Ahead.{Ahead}
 use Rattle.fof_pass.specs.declared.plan.Plan.{Plan}
@@ -21,6 +26,13 @@ use Rattle.fof_pass.specs.Planned.{written, scopeThen, duesIn, planned, 
 use Rattle.fof_pass.specs.declared.act.Now.{Now}
 use Rattle.fof_pass.specs.declared.act.Wrote.{Wrote}
 
+-- the marks of the head of an atom or a function, where its name is one of document 01; and of a variable, where it is bound
+abbrev pub namedMarks : List ℕ → Name → Option (List Mark)
+namedMarks word x = provided (isName x) (some (headed word ++ (Mark.string x ∷ [])))
+
+abbrev pub variableMarks : Scope → Name → Option (List Mark)
+variableMarks sc x = numberOf sc x >>= λ i. some (headed (octets "v") ++ (Mark.string (decimal i) ∷ Mark.end ∷ []))
+
 -- marks that are there are written, and where there are none it says so
 abbrev pub WrittenAs : Option (List Mark) → Wrote → Pen → List ℕ → List ℕ → Type 0
 WrittenAs none r p d d′ = r .ok ≡ false
@@ -32,15 +44,15 @@ pub record Writing (t ns : List ℕ) (bound : ℕ) (d d′ : List ℕ) (p : Pen)
 
 pub record Binding (ns ns′ : List ℕ) (bound at : ℕ) (w : Writes) (r : ℕ) : Type 0 where
   pub long : length ns′ ≡ length ns
-  pub does : (t : List ℕ) (takes : Bool) (c : ℕ) (a : Ahead) (sc : Scope) (ss : List Sign) → signsAt t at ≡ some ss → Aheads t at a → Named w takes (a .code) → bound ≤ 16384 → 16385 ≤ length ns → Scoped t ns bound sc → Scoped t ns′ r (scopeThen w sc ss)
+  pub does : (t : List ℕ) (takes : Bool) (a : Ahead) (sc : Scope) (ss : List Sign) → signsAt t at ≡ some ss → Aheads t at a → Named w takes (a .code) → bound ≤ 16384 → 16385 ≤ length ns → Scoped t ns bound sc → Scoped t ns′ r (scopeThen w sc ss)
 
 pub record Pushing (st st′ : List ℕ) (top : ℕ) (p : Plan) (r : ℕ) : Type 0 where
   pub long : length st′ ≡ length st
-  pub does : (ds : List Due) → Held st top ds → length (duesIn p ++ ds) ≤ 98400 → 98400 ≤ length st → Few (p .first) × Few (p .second) × Few (p .third) × Few (p .fourth) → Held st′ r (duesIn p ++ ds)
+  pub does : (ds : List Due) → Held st top ds → length (duesIn p ++ ds) < 98400 → 98400 ≤ length st → Few (p .first) × Few (p .second) × Few (p .third) × Few (p .fourth) → Held st′ r (duesIn p ++ ds)
 
 -- the work memory has room for what a text of at most 16,384 bytes can ask of it
 abbrev pub Enough : List Due → Scope → List Sign → Type 0
-Enough ds sc ss = (costs ds + 6 * length ss ≤ 98400) × (length sc + length ss ≤ 16384)
+Enough ds sc ss = (costs ds + 6 * length ss < 98400) × (length sc + length ss ≤ 16384)
 
 abbrev pub Roomy : List ℕ → List ℕ → Type 0
 Roomy st ns = (98400 ≤ length st) × (16385 ≤ length ns)
