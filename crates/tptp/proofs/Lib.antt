@@ -1,0 +1,4 @@
+pub mod MeaningLaws
+pub mod AnswerLaws
+pub mod TrueLaws
+pub mod Cases
