@@ -3,3 +3,4 @@ pub mod DueLaws
 pub mod AheadLaws
 pub mod NameLaws
 pub mod TakeLaws
+pub mod ChainLaws
