@@ -3,7 +3,7 @@ use Prim.Native.Nat.{ℕ, zero, suc, _+_, _-_, _<_, _≤_}
 use mathlib.Core.Path.{_≡_, refl, sym, _∙_, ap, subst}
 use mathlib.Core.Bool.{Bool, true, false, _&&_, _||_, false≢true}
 use mathlib.Core.List.{List, [], _∷_}
-use mathlib.Core.Option.{Option, some}
+use mathlib.Core.Option.{some}
 use native.Mathlib.Omega.{arith}
 use lib.Dec.{eqb}
 use lib.ListN.{length}
@@ -15,7 +15,6 @@ use Rattle.fof_part.specs.Due.{Link, numberIn, chain}
 use Rattle.fof_pass.specs.declared.ahead.Ahead.{Ahead}
 use Rattle.fof_pass.specs.declared.chain.First.{First}
 use Rattle.fof_pass.specs.declared.chain.First.the-variants as F
-use Rattle.fof_pass.specs.declared.chain.Chain.{Chain}
 use Rattle.fof_pass.specs.declared.chain.Seen.{Seen}
 use Rattle.fof_pass.specs.Ahead.{signsAt, SeesAll, Aheads}
 use Rattle.fof_pass.specs.Chained.{chainIs, Chains, opening, shutting, connecting, ended, firstOf, noted, Counted, plenty, OneMore, Passes}
