@@ -4,3 +4,4 @@ pub mod AheadLaws
 pub mod NameLaws
 pub mod TakeLaws
 pub mod ChainLaws
+pub mod RunLaws
