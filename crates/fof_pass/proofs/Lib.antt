@@ -5,3 +5,4 @@ pub mod NameLaws
 pub mod TakeLaws
 pub mod ChainLaws
 pub mod RunLaws
+pub mod PlanLaws

@@ -14,8 +14,9 @@ use Rattle.fof_truth.specs.Numbered.{Scope, numberOf}
 use Rattle.fof_part.specs.Sign.{Sign, code}
 use Rattle.fof_part.specs.Mark.{Mark}
 use Rattle.fof_part.specs.Due as part
-use Rattle.fof_part.specs.Due.{Did, did, dueAt, headed, manyHeaded, linkWord, quantifierWord, left}
+use Rattle.fof_part.specs.Due.{Did, did, dueAt, headed, manyHeaded, linkWord, quantifierWord, left, taking}
 use Rattle.fof_pass.specs.declared.dues.Due.{Due}
+use Rattle.fof_pass.specs.declared.dues.Due.the-variants as D
 use Rattle.fof_pass.specs.declared.plan.Writes.{Writes}
 use Rattle.fof_pass.specs.declared.plan.Writes.the-variants as W
 use Rattle.fof_pass.specs.declared.plan.Plan.{Plan}
@@ -69,6 +70,21 @@ duesIn p = meant (p .first) ++ (meant (p .second) ++ (meant (p .third) ++ meant 
 abbrev pub planned : Plan → Scope → List Sign → Option Did
 planned p sc ss = provided (p .ok) (written (p .writes) sc ss >>= λ ms. did ms (duesIn p) (scopeThen (p .writes) sc ss) (beyond (p .takes) ss))
 
+-- the plan where nothing can be done, and one that can be: whether the sign is taken, what is written, what is due then
+abbrev pub refusal : Plan
+refusal = record {
+  ok = false;
+  takes = false;
+  writes = W.Nothing;
+  first = D.Nothing;
+  second = D.Nothing;
+  third = D.Nothing;
+  fourth = D.Nothing;
+}
+
+abbrev pub doing : Bool → Writes → Due → Due → Due → Due → Plan
+doing t w a b c d = record { ok = true; takes = t; writes = w; first = a; second = b; third = c; fourth = d }
+
 -- the sign that a name is written of is one that holds it; a variable that becomes bound is taken
 abbrev pub Named : Writes → Bool → ℕ → Type 0
 Named W.Nothing t c = Unit {0}
@@ -92,6 +108,14 @@ pub record Sane (c n : ℕ) (p : Plan) : Type 0 where
 pub record PlansAs (f : Scope → List Sign → Option Did) (c n : ℕ) (p : Plan) : Type 0 where
   pub does : (ss : List Sign) → c ≡ codeAhead ss → (sc : Scope) → f sc ss ≡ planned p sc ss
   pub sane : Sane c n p
+
+-- the sign of a number is taken and these are due then; where it is not ahead, nothing can be done
+abbrev pub takingTo : ℕ → List part.Due → Scope → List Sign → Option Did
+takingTo c ds sc ss = taking c ss >>= λ r. did [] ds sc r
+
+-- three dues may be made of the number n: theirs are no more than a text has bytes, if n is
+abbrev pub FewBy : ℕ → Due → Due → Due → Type 0
+FewBy n a b c = n < 16385 → Few a × Few b × Few c
 
 -- the plan for a due at a place
 pub record Plans (t : List ℕ) (at : ℕ) (d : Due) (c : ℕ) (p : Plan) : Type 0 where

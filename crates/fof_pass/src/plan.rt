@@ -4,12 +4,17 @@ use crate::chain::First;
 use crate::chain::chain_ahead;
 use crate::dues::Due;
 use crate::dues::Sort;
-ghost use Prim.Native.Nat.{ℕ};
+ghost use Prim.Native.Nat.{ℕ, _<_};
 ghost use mathlib.Core.Path.{_≡_};
-ghost use Rattle.fof_part.specs.Due.{Did, byChain, quantified, topped, unitAt, variableAt, behindAt, argumentsAt, termsAt, termAt};
-ghost use Rattle.fof_pass.specs.Dues.{sortIs, linkIs, quantifierIs};
+ghost use mathlib.Core.Bool.{true};
+ghost use mathlib.Core.List.{[], _∷_, _++_};
+ghost use Rattle.basics.specs.Text.{octets};
+ghost use Rattle.fof_part.specs.Due.{did, headed, manyHeaded, linkWord, linkCode, byChain, quantified, topped, unitAt, variableAt, behindAt, argumentsAt, termsAt, termAt, dueAt};
+ghost use Rattle.fof_part.specs.Due as part;
+ghost use Rattle.fof_pass.specs.declared.dues.Due.the-variants as D;
+ghost use Rattle.fof_pass.specs.Dues.{sortIs, linkIs, quantifierIs, meant};
 ghost use Rattle.fof_pass.specs.Chained.{chainIs};
-ghost use Rattle.fof_pass.specs.Planned.{PlansAs, Plans};
+ghost use Rattle.fof_pass.specs.Planned.{beyond, refusal, doing, takingTo, FewBy, PlansAs, Plans};
 
 // What is written.
 pub enum Writes {
@@ -44,6 +49,7 @@ pub struct Plan {
 
 // Nothing can be done.
 fn refused() -> Plan
+    ensures { λ r. ⌜ r ≡ refusal ⌝ }
 {
     Plan {
         ok: false,
@@ -58,6 +64,7 @@ fn refused() -> Plan
 
 // This is written, with nothing due then.
 fn writing(takes: bool, writes: Writes) -> Plan
+    ensures { λ r. ⌜ r ≡ doing takes writes D.Nothing D.Nothing D.Nothing D.Nothing ⌝ }
 {
     Plan {
         ok: true,
@@ -72,6 +79,7 @@ fn writing(takes: bool, writes: Writes) -> Plan
 
 // Two are due then, the first on top.
 fn leading(takes: bool, writes: Writes, first: Due, second: Due) -> Plan
+    ensures { λ r. ⌜ r ≡ doing takes writes first second D.Nothing D.Nothing ⌝ }
 {
     Plan {
         ok: true,
@@ -86,6 +94,7 @@ fn leading(takes: bool, writes: Writes, first: Due, second: Due) -> Plan
 
 // The sign is the one that is expected, or nothing can be done.
 fn taken(code: usize, wanted: usize, first: Due, second: Due, third: Due) -> Plan
+    ensures { λ r. ⌜ ((n : ℕ) → wanted < 16 → FewBy n first second third → PlansAs (takingTo wanted (meant first ++ (meant second ++ (meant third ++ [])))) code n r) ⌝ }
 {
     if code == wanted {
         return Plan {
@@ -103,6 +112,7 @@ fn taken(code: usize, wanted: usize, first: Due, second: Due, third: Due) -> Pla
 
 // An implication, its left part of one sort and its right part of another.
 fn implied(left: Sort, right: Sort) -> Plan
+    ensures { λ r. ⌜ ((code n : ℕ) → PlansAs (λ sc ss. did (headed (octets "imp")) (part.Due.unit (sortIs left) ∷ part.Due.arrow ∷ part.Due.unit (sortIs right) ∷ part.Due.shut ∷ []) sc ss) code n r) ⌝ }
 {
     Plan {
         ok: true,
@@ -116,6 +126,7 @@ fn implied(left: Sort, right: Sort) -> Plan
 }
 
 fn linked(conj: bool, sort: Sort, number: usize) -> Plan
+    ensures { λ r. ⌜ ((code : ℕ) → PlansAs (λ sc ss. did (manyHeaded (linkWord (linkIs conj)) number) (part.Due.unit (sortIs sort) ∷ part.Due.more (linkIs conj) (sortIs sort) number ∷ []) sc ss) code number r) ⌝ }
 {
     leading(
         false,
@@ -129,7 +140,8 @@ fn linked(conj: bool, sort: Sort, number: usize) -> Plan
 fn by_chain(sort: Sort, c: Chain) -> Plan
     ensures { λ r. ⌜ ((code : ℕ) → PlansAs (byChain (sortIs sort) (chainIs (c .first) (c .number))) code (c .number) r) ⌝ }
 {
-    match c.first {
+    let first = c.first;
+    match first {
         First::Lone => leading(false, Writes::Nothing, Due::Unit(sort), Due::Nothing),
         First::Conj => match sort {
             Sort::Goal => linked(true, Sort::Goal, c.number),
@@ -138,7 +150,8 @@ fn by_chain(sort: Sort, c: Chain) -> Plan
         },
         First::Disj => match sort {
             Sort::Goal => linked(false, Sort::Goal, c.number),
-            _ => refused(),
+            Sort::Clause => refused(),
+            Sort::Head => refused(),
         },
         First::Implied => match sort {
             Sort::Goal => implied(Sort::Clause, Sort::Goal),
@@ -149,12 +162,23 @@ fn by_chain(sort: Sort, c: Chain) -> Plan
 }
 
 fn quantified(every: bool, sort: Sort) -> Plan
+    ensures { λ r. ⌜ ((code n : ℕ) → code < 16 → PlansAs (λ sc ss. quantified (quantifierIs every) (sortIs sort) sc (beyond true ss)) code n r) ⌝ }
 {
     match sort {
-        Sort::Goal => leading(true, Writes::Nothing, Due::List { every, sort }, Due::Nothing),
+        Sort::Goal => leading(
+            true,
+            Writes::Nothing,
+            Due::List { every, sort },
+            Due::Nothing,
+        ),
         Sort::Clause => {
             if every {
-                return leading(true, Writes::Nothing, Due::List { every, sort }, Due::Nothing);
+                return leading(
+                    true,
+                    Writes::Nothing,
+                    Due::List { every, sort },
+                    Due::Nothing,
+                );
             }
             refused()
         }
@@ -163,10 +187,12 @@ fn quantified(every: bool, sort: Sort) -> Plan
 }
 
 fn topped(sort: Sort) -> Plan
+    ensures { λ r. ⌜ ((code n : ℕ) → code < 16 → PlansAs (λ sc ss. topped (sortIs sort) sc (beyond true ss)) code n r) ⌝ }
 {
     match sort {
         Sort::Goal => writing(true, Writes::Top),
-        _ => refused(),
+        Sort::Clause => refused(),
+        Sort::Head => refused(),
     }
 }
 
@@ -191,26 +217,37 @@ fn unit(sort: Sort, code: usize) -> Plan
     refused()
 }
 
+// The number of the sign between the members of a chain.
+fn link_code(conj: bool) -> usize
+    ensures { λ r. ⌜ r ≡ linkCode (linkIs conj) ⌝ }
+{
+    if conj { 12 } else { 13 }
+}
+
 fn more(conj: bool, sort: Sort, number: usize, code: usize) -> Plan
+    ensures { λ r. ⌜ PlansAs (dueAt (part.Due.more (linkIs conj) (sortIs sort) number)) code number r ⌝ }
 {
     if number == 0 {
         return writing(false, Writes::Nothing);
     }
-    let wanted = if conj { 12 } else { 13 };
-    taken(
-        code,
-        wanted,
-        Due::Unit(sort),
-        Due::Shut,
-        Due::More { conj, sort, number: number - 1 },
-    )
+    let next = Due::More {
+        conj,
+        sort,
+        number: number - 1,
+    };
+    taken(code, link_code(conj), Due::Unit(sort), Due::Shut, next)
 }
 
 fn variable(every: bool, sort: Sort, code: usize) -> Plan
     ensures { λ r. ⌜ PlansAs (variableAt (quantifierIs every) (sortIs sort)) code 0 r ⌝ }
 {
     if code == 1 {
-        return leading(true, Writes::Binds(every), Due::Behind { every, sort }, Due::Leave);
+        return leading(
+            true,
+            Writes::Binds(every),
+            Due::Behind { every, sort },
+            Due::Leave,
+        );
     }
     refused()
 }
@@ -219,7 +256,12 @@ fn behind(every: bool, sort: Sort, code: usize) -> Plan
     ensures { λ r. ⌜ PlansAs (behindAt (quantifierIs every) (sortIs sort)) code 0 r ⌝ }
 {
     if code == 7 {
-        return leading(true, Writes::Nothing, Due::Variable { every, sort }, Due::Nothing);
+        return leading(
+            true,
+            Writes::Nothing,
+            Due::Variable { every, sort },
+            Due::Nothing,
+        );
     }
     taken(code, 6, Due::Over(sort), Due::Nothing, Due::Nothing)
 }
