@@ -4,5 +4,6 @@ pub mod AheadLaws
 pub mod NameLaws
 pub mod TakeLaws
 pub mod ChainLaws
+pub mod ActLaws
 pub mod RunLaws
 pub mod PlanLaws
