@@ -7,27 +7,27 @@ use Rattle.fof_pass.proofs.act.pushed.Reads as reads
 use Rattle.fof_pass.proofs.act.pushed.Lts as lts
 use Rattle.fof_pass.proofs.dues.push.Reads as push-reads
 
--- src/act.rt:168:9
+-- src/act.rt:176:9
 push-requires : tie.Need-push-requires
 push-requires c κs = search needs
 
--- src/act.rt:169:9
+-- src/act.rt:177:9
 push-requires-2 : tie.Need-push-requires-2
 push-requires-2 c κs = search needs
 
--- src/act.rt:170:9
+-- src/act.rt:178:9
 push-requires-3 : tie.Need-push-requires-3
 push-requires-3 c κs = search needs
 
--- src/act.rt:171:5
+-- src/act.rt:179:5
 push-requires-4 : tie.Need-push-requires-4
 push-requires-4 c κs = search needs
 
--- src/act.rt:161:1
+-- src/act.rt:169:1
 same-length : tie.Need-same-length
 same-length c = search needs
 
--- src/act.rt:161:1
+-- src/act.rt:169:1
 returns : tie.Need-returns
 returns c = push-four (c .before .before .before .before .before .before .before .before .before .before .before .before .before .before .before .before .before .args .p) (c .before .before .before .before .before .before .before .before .before .before .before .before .before .before .push .ensures) (c .before .before .before .before .before .before .before .before .before .before .push2 .ensures) (c .before .before .before .before .before .before .push3 .ensures) (c .before .before .push4 .ensures)
 

@@ -17,119 +17,119 @@ use Rattle.fof_pass.proofs.act.variable.Reads as variable-reads
 use Rattle.fof_pass.proofs.ink.end.Reads as end-reads
 use Rattle.fof_pass.proofs.ink.head.Reads as head-reads
 
--- src/act.rt:113:28
+-- src/act.rt:121:28
 enum-told : tie.Need-enum-told
 enum-told c = search needs
 
--- src/act.rt:113:28
+-- src/act.rt:121:28
 done-requires : tie.Need-done-requires
 done-requires c κs = search needs
 
--- src/act.rt:114:25
+-- src/act.rt:122:25
 enum-known-w : tie.Need-enum-known-w
 enum-known-w c = search needs
 
--- src/act.rt:114:48
+-- src/act.rt:122:48
 links-requires : tie.Need-links-requires
 links-requires c κs = search needs
 
--- src/act.rt:114:43
+-- src/act.rt:122:43
 done-requires-2 : tie.Need-done-requires-2
 done-requires-2 c κs = search needs
 
--- src/act.rt:115:38
+-- src/act.rt:123:38
 enum-told-2 : tie.Need-enum-told-2
 enum-told-2 c = search needs
 
--- src/act.rt:115:48
+-- src/act.rt:123:48
 slice-aggregate-head : tie.Need-slice-aggregate-head
 slice-aggregate-head c = search needs
 
--- src/act.rt:115:33
+-- src/act.rt:123:33
 head-requires : tie.Need-head-requires
 head-requires c κs = search needs
 
--- src/act.rt:115:28
+-- src/act.rt:123:28
 done-requires-3 : tie.Need-done-requires-3
 done-requires-3 c κs = search needs
 
--- src/act.rt:116:23
+-- src/act.rt:124:23
 enum-known-w-2 : tie.Need-enum-known-w-2
 enum-known-w-2 c = search needs
 
--- src/act.rt:116:38
+-- src/act.rt:124:38
 quantifier-requires : tie.Need-quantifier-requires
 quantifier-requires c κs = search needs
 
--- src/act.rt:116:33
+-- src/act.rt:124:33
 done-requires-4 : tie.Need-done-requires-4
 done-requires-4 c κs = search needs
 
--- src/act.rt:117:41
+-- src/act.rt:125:41
 enum-told-3 : tie.Need-enum-told-3
 enum-told-3 c = search needs
 
--- src/act.rt:117:29
+-- src/act.rt:125:29
 top-written-requires : tie.Need-top-written-requires
 top-written-requires c κs = search needs
 
--- src/act.rt:117:24
+-- src/act.rt:125:24
 done-requires-5 : tie.Need-done-requires-5
 done-requires-5 c κs = search needs
 
--- src/act.rt:118:37
+-- src/act.rt:126:37
 enum-told-4 : tie.Need-enum-told-4
 enum-told-4 c = search needs
 
--- src/act.rt:118:50
+-- src/act.rt:126:50
 slice-aggregate-named : tie.Need-slice-aggregate-named
 slice-aggregate-named c = search needs
 
--- src/act.rt:118:25
+-- src/act.rt:126:25
 named-requires : tie.Need-named-requires
 named-requires c κs = search needs
 
--- src/act.rt:119:41
+-- src/act.rt:127:41
 enum-told-5 : tie.Need-enum-told-5
 enum-told-5 c = search needs
 
--- src/act.rt:119:54
+-- src/act.rt:127:54
 slice-aggregate-named-2 : tie.Need-slice-aggregate-named-2
 slice-aggregate-named-2 c = search needs
 
--- src/act.rt:119:29
+-- src/act.rt:127:29
 named-requires-2 : tie.Need-named-requires-2
 named-requires-2 c κs = search needs
 
--- src/act.rt:120:58
+-- src/act.rt:128:58
 enum-told-6 : tie.Need-enum-told-6
 enum-told-6 c = search needs
 
--- src/act.rt:120:29
+-- src/act.rt:128:29
 variable-requires : tie.Need-variable-requires
 variable-requires c κs = search needs
 
--- src/act.rt:121:33
+-- src/act.rt:129:33
 enum-told-7 : tie.Need-enum-told-7
 enum-told-7 c = search needs
 
--- src/act.rt:121:29
+-- src/act.rt:129:29
 end-requires : tie.Need-end-requires
 end-requires c κs = search needs
 
--- src/act.rt:121:24
+-- src/act.rt:129:24
 done-requires-6 : tie.Need-done-requires-6
 done-requires-6 c κs = search needs
 
--- src/act.rt:122:36
+-- src/act.rt:130:36
 enum-told-8 : tie.Need-enum-told-8
 enum-told-8 c = search needs
 
--- src/act.rt:122:32
+-- src/act.rt:130:32
 end-requires-2 : tie.Need-end-requires-2
 end-requires-2 c κs = search needs
 
--- src/act.rt:122:27
+-- src/act.rt:130:27
 done-requires-7 : tie.Need-done-requires-7
 done-requires-7 c κs = search needs
 
