@@ -6,7 +6,6 @@ use mathlib.Core.List.{List, [], _∷_, _++_}
 use mathlib.Core.Option.{Option, none, some}
 use native.Mathlib.Omega.{arith}
 use lib.Dec.{eqb}
-use lib.ListN.{length}
 use borrow.Author.Tests.{eq-eqb, ne-eqb}
 use Rattle.basics.specs.Choice.{choose, _>>=_, maybe, provided}
 use Rattle.basics.specs.Text.{octets}
@@ -25,10 +24,8 @@ use Rattle.fof_pass.specs.declared.dues.Due.the-variants as D
 use Rattle.fof_pass.specs.declared.chain.First.{First}
 use Rattle.fof_pass.specs.declared.chain.First.the-variants as F
 use Rattle.fof_pass.specs.declared.chain.Chain.{Chain}
-use Rattle.fof_pass.specs.declared.plan.Writes.{Writes}
 use Rattle.fof_pass.specs.declared.plan.Writes.the-variants as W
 use Rattle.fof_pass.specs.declared.plan.Plan.{Plan}
-use Rattle.fof_pass.specs.Ahead.{signsAt}
 use Rattle.fof_pass.specs.Dues.{sortIs, linkIs, quantifierIs, meant, Few}
 use Rattle.fof_pass.specs.Chained.{chainIs, Chains}
 use Rattle.fof_pass.specs.Planned.{codeAhead, beyond, planned, refusal, doing, takingTo, FewBy, Sane, PlansAs, Plans}
