@@ -7,3 +7,5 @@ pub mod ChainLaws
 pub mod ActLaws
 pub mod RunLaws
 pub mod PlanLaws
+pub mod LineLaws
+pub mod LinesLaws

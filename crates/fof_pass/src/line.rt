@@ -9,11 +9,18 @@ use crate::ahead::sign_ahead;
 use crate::expected::take;
 use sexp::is_name_of;
 use sexp::same;
+ghost use mathlib.Core.Path.{_≡_};
+ghost use mathlib.Core.List.{List};
+ghost use mathlib.Core.Option.{some};
+ghost use Rattle.fof_part.specs.Sign.{Sign};
+ghost use Rattle.fof_pass.specs.Ahead.{signsAt};
 ghost use Rattle.fof_pass.specs.Dues.{sortIs};
-ghost use Rattle.fof_pass.specs.Lined.{Introduces, Bodies};
+ghost use Rattle.fof_pass.specs.Taking.{TakesTo};
+ghost use Rattle.fof_pass.specs.Lined.{opened, labelled, roled, OpenedAs, Introduces, Bodies};
 
 // fof(
 fn opening(text: &[u8], at: usize) -> Taken
+    ensures { λ r. ⌜ ((ss : List Sign) → signsAt (now (text .entry)) at ≡ some ss → TakesTo (now (text .entry)) r (opened ss)) ⌝ }
 {
     let a = sign_ahead(text, at);
     if a.code != 0 {
@@ -27,6 +34,7 @@ fn opening(text: &[u8], at: usize) -> Taken
 
 // the label and a comma
 fn label(text: &[u8], at: usize) -> Taken
+    ensures { λ r. ⌜ ((ss : List Sign) → signsAt (now (text .entry)) at ≡ some ss → TakesTo (now (text .entry)) r (labelled ss)) ⌝ }
 {
     let a = sign_ahead(text, at);
     if a.code != 0 {
@@ -51,6 +59,7 @@ pub struct Opened {
 }
 
 fn role_ahead(text: &[u8], at: usize) -> Opened
+    ensures { λ r. ⌜ ((ss : List Sign) → signsAt (now (text .entry)) at ≡ some ss → OpenedAs (roled ss) (now (text .entry)) r) ⌝ }
 {
     let a = sign_ahead(text, at);
     if a.code != 0 {
@@ -89,11 +98,12 @@ pub fn body(text: &[u8], stack: &mut [usize], names: &mut [usize], buf: &mut [u8
     if !n.ok {
         return n;
     }
+    let pen = n.pen;
     let Taken::Next(m) = take(text, n.at, 4) else {
-        return Now { ok: false, at: n.at, top: n.top, bound: n.bound, pen: n.pen };
+        return Now { ok: false, at: n.at, top: n.top, bound: n.bound, pen };
     };
     let Taken::Next(m) = take(text, m, 9) else {
-        return Now { ok: false, at: n.at, top: n.top, bound: n.bound, pen: n.pen };
+        return Now { ok: false, at: n.at, top: n.top, bound: n.bound, pen };
     };
-    Now { ok: true, at: m, top: n.top, bound: n.bound, pen: n.pen }
+    Now { ok: true, at: m, top: n.top, bound: n.bound, pen }
 }

@@ -7,7 +7,12 @@ use crate::dues::Sort;
 use crate::ink::end;
 use crate::ink::head;
 use crate::ahead::sign_ahead;
-ghost use Rattle.fof_pass.specs.Lined.{Passes};
+ghost use mathlib.Core.Path.{_≡_};
+ghost use mathlib.Core.Bool.{false};
+ghost use mathlib.Core.List.{List};
+ghost use Prim.Native.Nat.{ℕ, _+_, _<_};
+ghost use Rattle.fof_truth.specs.Formula as truth;
+ghost use Rattle.fof_pass.specs.Lined.{Lines, Adds, PassesIn, Passes};
 
 // What became of the lines: whether all are of the part, both pens, and how many rules and goals there are.
 pub struct Passed {
@@ -21,31 +26,47 @@ pub struct Passed {
 
 // One line more; a text has no more than 16,385.
 fn more(n: usize) -> usize
+    ensures { λ r. ⌜ (n < 16385 → r ≡ n + 1) ⌝ }
 {
     if n < 16385 { n + 1 } else { n }
 }
 
 fn refused(p: Passed) -> Passed
+    ensures { λ r. ⌜ r .ok ≡ false ⌝ }
 {
-    Passed { ok: false, at: p.at, rules: p.rules, goal: p.goal, axioms: p.axioms, conjectures: p.conjectures }
+    let rules = p.rules;
+    let goal = p.goal;
+    Passed { ok: false, at: p.at, rules, goal, axioms: p.axioms, conjectures: p.conjectures }
 }
 
 fn axiom(text: &[u8], rules: &mut [u8], stack: &mut [usize], names: &mut [usize], p: Passed, at: usize) -> Passed
+    ensures { λ r. ⌜ ((gs : List ℕ) → Lines truth.Role.asAxiom (now (text .entry)) (now (stack .entry)) (now (stack .exit)) (now (names .entry)) (now (names .exit)) (now (rules .entry)) (now (rules .exit)) gs gs p at r) ⌝ }
 {
-    let n = body(text, stack, names, rules, p.rules, at, Sort::Clause);
-    Passed { ok: n.ok, at: n.at, rules: n.pen, goal: p.goal, axioms: more(p.axioms), conjectures: p.conjectures }
+    let pen = p.rules;
+    let goal = p.goal;
+    let n = body(text, stack, names, rules, pen, at, Sort::Clause);
+    let pen = n.pen;
+    let axioms = more(p.axioms);
+    Passed { ok: n.ok, at: n.at, rules: pen, goal, axioms, conjectures: p.conjectures }
 }
 
 fn conjecture(text: &[u8], goal: &mut [u8], stack: &mut [usize], names: &mut [usize], p: Passed, at: usize) -> Passed
+    ensures { λ r. ⌜ ((rs : List ℕ) → Lines truth.Role.asConjecture (now (text .entry)) (now (stack .entry)) (now (stack .exit)) (now (names .entry)) (now (names .exit)) rs rs (now (goal .entry)) (now (goal .exit)) p at r) ⌝ }
 {
-    let n = body(text, stack, names, goal, p.goal, at, Sort::Goal);
-    Passed { ok: n.ok, at: n.at, rules: p.rules, goal: n.pen, axioms: p.axioms, conjectures: more(p.conjectures) }
+    let rules = p.rules;
+    let pen = p.goal;
+    let n = body(text, stack, names, goal, pen, at, Sort::Goal);
+    let pen = n.pen;
+    let conjectures = more(p.conjectures);
+    Passed { ok: n.ok, at: n.at, rules, goal: pen, axioms: p.axioms, conjectures }
 }
 
 fn line(text: &[u8], rules: &mut [u8], goal: &mut [u8], stack: &mut [usize], names: &mut [usize], p: Passed) -> Passed
+    ensures { λ r. ⌜ Adds (now (text .entry)) (now (stack .entry)) (now (stack .exit)) (now (names .entry)) (now (names .exit)) (now (rules .entry)) (now (rules .exit)) (now (goal .entry)) (now (goal .exit)) p r ⌝ }
 {
     let o = introduced(text, p.at);
-    match o.role {
+    let role = o.role;
+    match role {
         Role::None => refused(p),
         Role::Axiom => axiom(text, rules, stack, names, p, o.at),
         Role::Conjecture => conjecture(text, goal, stack, names, p, o.at),
@@ -53,16 +74,19 @@ fn line(text: &[u8], rules: &mut [u8], goal: &mut [u8], stack: &mut [usize], nam
 }
 
 fn lines(text: &[u8], rules: &mut [u8], goal: &mut [u8], stack: &mut [usize], names: &mut [usize]) -> Passed
+    ensures { λ r. ⌜ PassesIn (now (text .entry)) (now (stack .entry)) (now (stack .exit)) (now (names .entry)) (now (names .exit)) (now (rules .entry)) (now (rules .exit)) (now (goal .entry)) (now (goal .exit)) r ⌝ }
 {
     let start = Pen { at: 0, depth: 0, deep: false };
     let r = head(rules, start, b"rules");
     let mut p = Passed { ok: true, at: 0, rules: r, goal: start, axioms: 0, conjectures: 0 };
-    let mut left = 16385;
+    let mut left = 16385usize;
     loop {
         let a = sign_ahead(text, p.at);
         if a.code == 16 {
-            let r = end(rules, p.rules);
-            return Passed { ok: p.ok, at: p.at, rules: r, goal: p.goal, axioms: p.axioms, conjectures: p.conjectures };
+            let pen = p.rules;
+            let goal = p.goal;
+            let pen = end(rules, pen);
+            return Passed { ok: p.ok, at: p.at, rules: pen, goal, axioms: p.axioms, conjectures: p.conjectures };
         }
         if left == 0 {
             return refused(p);
