@@ -1,12 +1,12 @@
 // A line: what stands before its formula, the formula, and what stands behind it.
 use crate::act::Now;
-use crate::run::formula;
-use crate::ink::Pen;
-use crate::dues::Sort;
-use crate::expected::Taken;
 use crate::ahead::cut;
 use crate::ahead::sign_ahead;
+use crate::dues::Sort;
+use crate::expected::Taken;
 use crate::expected::take;
+use crate::ink::Pen;
+use crate::run::formula;
 use sexp::is_name_of;
 use sexp::same;
 ghost use mathlib.Core.Path.{_≡_};
@@ -63,18 +63,33 @@ fn role_ahead(text: &[u8], at: usize) -> Opened
 {
     let a = sign_ahead(text, at);
     if a.code != 0 {
-        return Opened { role: Role::None, at };
+        return Opened {
+            role: Role::None,
+            at,
+        };
     }
     let Taken::Next(n) = take(text, a.end, 7) else {
-        return Opened { role: Role::None, at };
+        return Opened {
+            role: Role::None,
+            at,
+        };
     };
     if same(cut(text, a.start, a.end), b"axiom") {
-        return Opened { role: Role::Axiom, at: n };
+        return Opened {
+            role: Role::Axiom,
+            at: n,
+        };
     }
     if same(cut(text, a.start, a.end), b"conjecture") {
-        return Opened { role: Role::Conjecture, at: n };
+        return Opened {
+            role: Role::Conjecture,
+            at: n,
+        };
     }
-    Opened { role: Role::None, at }
+    Opened {
+        role: Role::None,
+        at,
+    }
 }
 
 // Up to the formula.
@@ -82,16 +97,30 @@ pub fn introduced(text: &[u8], at: usize) -> Opened
     ensures { λ r. ⌜ Introduces (now (text .entry)) at r ⌝ }
 {
     let Taken::Next(n) = opening(text, at) else {
-        return Opened { role: Role::None, at };
+        return Opened {
+            role: Role::None,
+            at,
+        };
     };
     let Taken::Next(n) = label(text, n) else {
-        return Opened { role: Role::None, at };
+        return Opened {
+            role: Role::None,
+            at,
+        };
     };
     role_ahead(text, n)
 }
 
 // The formula and what closes the line.
-pub fn body(text: &[u8], stack: &mut [usize], names: &mut [usize], buf: &mut [u8], pen: Pen, at: usize, sort: Sort) -> Now
+pub fn body(
+    text: &[u8],
+    stack: &mut [usize],
+    names: &mut [usize],
+    buf: &mut [u8],
+    pen: Pen,
+    at: usize,
+    sort: Sort,
+) -> Now
     ensures { λ r. ⌜ Bodies (now (text .entry)) (now (stack .entry)) (now (stack .exit)) (now (names .entry)) (now (names .exit)) (now (buf .entry)) (now (buf .exit)) pen at (sortIs sort) r ⌝ }
 {
     let n = formula(text, stack, names, buf, pen, at, sort);
@@ -100,10 +129,28 @@ pub fn body(text: &[u8], stack: &mut [usize], names: &mut [usize], buf: &mut [u8
     }
     let pen = n.pen;
     let Taken::Next(m) = take(text, n.at, 4) else {
-        return Now { ok: false, at: n.at, top: n.top, bound: n.bound, pen };
+        return Now {
+            ok: false,
+            at: n.at,
+            top: n.top,
+            bound: n.bound,
+            pen,
+        };
     };
     let Taken::Next(m) = take(text, m, 9) else {
-        return Now { ok: false, at: n.at, top: n.top, bound: n.bound, pen };
+        return Now {
+            ok: false,
+            at: n.at,
+            top: n.top,
+            bound: n.bound,
+            pen,
+        };
     };
-    Now { ok: true, at: m, top: n.top, bound: n.bound, pen }
+    Now {
+        ok: true,
+        at: m,
+        top: n.top,
+        bound: n.bound,
+        pen,
+    }
 }

@@ -1,12 +1,12 @@
 // All lines: the axioms into the rules' file, the conjectures into the goal's.
+use crate::ahead::sign_ahead;
+use crate::dues::Sort;
+use crate::ink::Pen;
+use crate::ink::end;
+use crate::ink::head;
 use crate::line::Role;
 use crate::line::body;
 use crate::line::introduced;
-use crate::ink::Pen;
-use crate::dues::Sort;
-use crate::ink::end;
-use crate::ink::head;
-use crate::ahead::sign_ahead;
 ghost use mathlib.Core.Path.{_≡_};
 ghost use mathlib.Core.Bool.{false};
 ghost use mathlib.Core.List.{List};
@@ -36,10 +36,24 @@ fn refused(p: Passed) -> Passed
 {
     let rules = p.rules;
     let goal = p.goal;
-    Passed { ok: false, at: p.at, rules, goal, axioms: p.axioms, conjectures: p.conjectures }
+    Passed {
+        ok: false,
+        at: p.at,
+        rules,
+        goal,
+        axioms: p.axioms,
+        conjectures: p.conjectures,
+    }
 }
 
-fn axiom(text: &[u8], rules: &mut [u8], stack: &mut [usize], names: &mut [usize], p: Passed, at: usize) -> Passed
+fn axiom(
+    text: &[u8],
+    rules: &mut [u8],
+    stack: &mut [usize],
+    names: &mut [usize],
+    p: Passed,
+    at: usize,
+) -> Passed
     ensures { λ r. ⌜ ((gs : List ℕ) → Lines truth.Role.asAxiom (now (text .entry)) (now (stack .entry)) (now (stack .exit)) (now (names .entry)) (now (names .exit)) (now (rules .entry)) (now (rules .exit)) gs gs p at r) ⌝ }
 {
     let pen = p.rules;
@@ -47,10 +61,24 @@ fn axiom(text: &[u8], rules: &mut [u8], stack: &mut [usize], names: &mut [usize]
     let n = body(text, stack, names, rules, pen, at, Sort::Clause);
     let pen = n.pen;
     let axioms = more(p.axioms);
-    Passed { ok: n.ok, at: n.at, rules: pen, goal, axioms, conjectures: p.conjectures }
+    Passed {
+        ok: n.ok,
+        at: n.at,
+        rules: pen,
+        goal,
+        axioms,
+        conjectures: p.conjectures,
+    }
 }
 
-fn conjecture(text: &[u8], goal: &mut [u8], stack: &mut [usize], names: &mut [usize], p: Passed, at: usize) -> Passed
+fn conjecture(
+    text: &[u8],
+    goal: &mut [u8],
+    stack: &mut [usize],
+    names: &mut [usize],
+    p: Passed,
+    at: usize,
+) -> Passed
     ensures { λ r. ⌜ ((rs : List ℕ) → Lines truth.Role.asConjecture (now (text .entry)) (now (stack .entry)) (now (stack .exit)) (now (names .entry)) (now (names .exit)) rs rs (now (goal .entry)) (now (goal .exit)) p at r) ⌝ }
 {
     let rules = p.rules;
@@ -58,10 +86,24 @@ fn conjecture(text: &[u8], goal: &mut [u8], stack: &mut [usize], names: &mut [us
     let n = body(text, stack, names, goal, pen, at, Sort::Goal);
     let pen = n.pen;
     let conjectures = more(p.conjectures);
-    Passed { ok: n.ok, at: n.at, rules, goal: pen, axioms: p.axioms, conjectures }
+    Passed {
+        ok: n.ok,
+        at: n.at,
+        rules,
+        goal: pen,
+        axioms: p.axioms,
+        conjectures,
+    }
 }
 
-fn line(text: &[u8], rules: &mut [u8], goal: &mut [u8], stack: &mut [usize], names: &mut [usize], p: Passed) -> Passed
+fn line(
+    text: &[u8],
+    rules: &mut [u8],
+    goal: &mut [u8],
+    stack: &mut [usize],
+    names: &mut [usize],
+    p: Passed,
+) -> Passed
     ensures { λ r. ⌜ Adds (now (text .entry)) (now (stack .entry)) (now (stack .exit)) (now (names .entry)) (now (names .exit)) (now (rules .entry)) (now (rules .exit)) (now (goal .entry)) (now (goal .exit)) p r ⌝ }
 {
     let o = introduced(text, p.at);
@@ -73,12 +115,29 @@ fn line(text: &[u8], rules: &mut [u8], goal: &mut [u8], stack: &mut [usize], nam
     }
 }
 
-fn lines(text: &[u8], rules: &mut [u8], goal: &mut [u8], stack: &mut [usize], names: &mut [usize]) -> Passed
+fn lines(
+    text: &[u8],
+    rules: &mut [u8],
+    goal: &mut [u8],
+    stack: &mut [usize],
+    names: &mut [usize],
+) -> Passed
     ensures { λ r. ⌜ PassesIn (now (text .entry)) (now (stack .entry)) (now (stack .exit)) (now (names .entry)) (now (names .exit)) (now (rules .entry)) (now (rules .exit)) (now (goal .entry)) (now (goal .exit)) r ⌝ }
 {
-    let start = Pen { at: 0, depth: 0, deep: false };
+    let start = Pen {
+        at: 0,
+        depth: 0,
+        deep: false,
+    };
     let r = head(rules, start, b"rules");
-    let mut p = Passed { ok: true, at: 0, rules: r, goal: start, axioms: 0, conjectures: 0 };
+    let mut p = Passed {
+        ok: true,
+        at: 0,
+        rules: r,
+        goal: start,
+        axioms: 0,
+        conjectures: 0,
+    };
     let mut left = 16385usize;
     loop {
         let a = sign_ahead(text, p.at);
@@ -86,7 +145,14 @@ fn lines(text: &[u8], rules: &mut [u8], goal: &mut [u8], stack: &mut [usize], na
             let pen = p.rules;
             let goal = p.goal;
             let pen = end(rules, pen);
-            return Passed { ok: p.ok, at: p.at, rules: pen, goal, axioms: p.axioms, conjectures: p.conjectures };
+            return Passed {
+                ok: p.ok,
+                at: p.at,
+                rules: pen,
+                goal,
+                axioms: p.axioms,
+                conjectures: p.conjectures,
+            };
         }
         if left == 0 {
             return refused(p);
