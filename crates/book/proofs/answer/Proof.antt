@@ -1,8 +1,9 @@
 -- `answer` (src/main.rt): the two files that are written lie inside their buffers.
+use native.Mathlib.Omega.{arith}
 use borrow.Author.Needs.{needs}
 use mathlib.Core.Path.{sym}
 use lib.Seq.{length-take-le}
-use Rattle.tptp.proofs.InsideLaws.{written-inside}
+use Rattle.tptp.proofs.TrueLaws.{written-inside}
 use Rattle.book.proofs.answer.Statement.{statement}
 use Rattle.book.proofs.answer.Tie as tie
 
@@ -13,16 +14,16 @@ enum-known-r : tie.Need-enum-known-r
 enum-known-r c = search needs
 
 slice-reshare-prefix-save : tie.Need-slice-reshare-prefix-save
-slice-reshare-prefix-save c = written-inside (c .before .before .before .before .before .before .before .tptp .ensures) (c .before .r .given .1) .0
+slice-reshare-prefix-save c = let k = c .before .before .before .before .before .before .before .tptp in let e = c .before .r .given in let l = written-inside (k .ensures) (e .0 .0) (e .0 .1 .0) (e .1) in let q = k .kept .1 .0 in omega (arith, l .0)
 
 slice-aggregate-save : tie.Need-slice-aggregate-save
-slice-aggregate-save c = let k = c .before .before .before .before .before .before .before .before .tptp in let e = c .before .before .r .given in sym (length-take-le (e .0 .0) (k .last .1 .0) (written-inside (k .ensures) (e .1) .0))
+slice-aggregate-save c = let k = c .before .before .before .before .before .before .before .before .tptp in let e = c .before .before .r .given in let l = written-inside (k .ensures) (e .0 .0) (e .0 .1 .0) (e .1) in let q = k .kept .1 .0 in sym (length-take-le (e .0 .0) (k .last .1 .0) (omega (arith, l .0)))
 
 slice-reshare-prefix-save-2 : tie.Need-slice-reshare-prefix-save-2
-slice-reshare-prefix-save-2 c = written-inside (c .before .before .before .before .before .before .before .before .tptp .ensures) (c .before .before .r .given .1) .1
+slice-reshare-prefix-save-2 c = let k = c .before .before .before .before .before .before .before .before .tptp in let e = c .before .before .r .given in let l = written-inside (k .ensures) (e .0 .0) (e .0 .1 .0) (e .1) in let q = k .kept .1 .1 .0 in omega (arith, l .1)
 
 slice-aggregate-save-2 : tie.Need-slice-aggregate-save-2
-slice-aggregate-save-2 c = let k = c .before .before .before .before .before .before .before .before .before .tptp in let e = c .before .before .before .r .given in sym (length-take-le (e .0 .1 .0) (k .last .1 .1 .0) (written-inside (k .ensures) (e .1) .1))
+slice-aggregate-save-2 c = let k = c .before .before .before .before .before .before .before .before .before .tptp in let e = c .before .before .before .r .given in let l = written-inside (k .ensures) (e .0 .0) (e .0 .1 .0) (e .1) in let q = k .kept .1 .1 .0 in sym (length-take-le (e .0 .1 .0) (k .last .1 .1 .0) (omega (arith, l .1)))
 
 save-requires : tie.Need-save-requires
 save-requires c κs = search needs

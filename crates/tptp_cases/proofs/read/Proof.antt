@@ -1,7 +1,8 @@
 -- `read` (src/main.rt): the two files that are written lie inside their buffers.
 use mathlib.Core.Path.{sym}
 use lib.Seq.{length-take-le}
-use Rattle.tptp.proofs.InsideLaws.{written-inside}
+use Rattle.tptp.proofs.TrueLaws.{written-inside}
+use native.Mathlib.Omega.{arith}
 use borrow.Author.Needs.{needs}
 use Rattle.tptp_cases.proofs.read.Statement.{statement}
 use Rattle.tptp_cases.proofs.read.Tie as tie
@@ -13,16 +14,16 @@ enum-known-r : tie.Need-enum-known-r
 enum-known-r c = search needs
 
 slice-reshare-prefix-written : tie.Need-slice-reshare-prefix-written
-slice-reshare-prefix-written c = written-inside (c .before .before .before .before .before .before .before .tptp .ensures) (c .before .r .given .1) .0
+slice-reshare-prefix-written c = let k = c .before .before .before .before .before .before .before .tptp in let e = c .before .r .given in let l = written-inside (k .ensures) (e .0 .0) (e .0 .1 .0) (e .1) in let q = k .kept .1 .0 in omega (arith, l .0)
 
 slice-aggregate-written : tie.Need-slice-aggregate-written
-slice-aggregate-written c = let k = c .before .before .before .before .before .before .before .before .tptp in let e = c .before .before .r .given in sym (length-take-le (e .0 .0) (k .last .1 .0) (written-inside (k .ensures) (e .1) .0))
+slice-aggregate-written c = let k = c .before .before .before .before .before .before .before .before .tptp in let e = c .before .before .r .given in let l = written-inside (k .ensures) (e .0 .0) (e .0 .1 .0) (e .1) in let q = k .kept .1 .0 in sym (length-take-le (e .0 .0) (k .last .1 .0) (omega (arith, l .0)))
 
 slice-reshare-prefix-written-2 : tie.Need-slice-reshare-prefix-written-2
-slice-reshare-prefix-written-2 c = written-inside (c .before .before .before .before .before .before .before .before .tptp .ensures) (c .before .before .r .given .1) .1
+slice-reshare-prefix-written-2 c = let k = c .before .before .before .before .before .before .before .before .tptp in let e = c .before .before .r .given in let l = written-inside (k .ensures) (e .0 .0) (e .0 .1 .0) (e .1) in let q = k .kept .1 .1 .0 in omega (arith, l .1)
 
 slice-aggregate-written-2 : tie.Need-slice-aggregate-written-2
-slice-aggregate-written-2 c = let k = c .before .before .before .before .before .before .before .before .before .tptp in let e = c .before .before .before .r .given in sym (length-take-le (e .0 .1 .0) (k .last .1 .1 .0) (written-inside (k .ensures) (e .1) .1))
+slice-aggregate-written-2 c = let k = c .before .before .before .before .before .before .before .before .before .tptp in let e = c .before .before .before .r .given in let l = written-inside (k .ensures) (e .0 .0) (e .0 .1 .0) (e .1) in let q = k .kept .1 .1 .0 in sym (length-take-le (e .0 .1 .0) (k .last .1 .1 .0) (omega (arith, l .1)))
 
 written-requires : tie.Need-written-requires
 written-requires c κs = search needs
