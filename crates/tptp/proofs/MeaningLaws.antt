@@ -19,7 +19,7 @@ use Rattle.fof_grammar.specs.Sound.{Sound, sound}
 use Rattle.fof_grammar.proofs.Soundly.{sound-exactly, refused-exactly}
 use Rattle.fof_truth.specs.Formula.{Role, Line}
 use Rattle.fof_truth.specs.Part.{BookInPart}
-use Rattle.fof_truth.specs.Book.{sentencesOf, withGoal, Book, rulesFile, goalFile, Why, Outcome, bookOf}
+use Rattle.fof_truth.specs.Book.{sentencesOf, withGoal, Book, Why, Outcome, bookOf}
 use Rattle.fof_truth.specs.Meaning as lines
 use Rattle.fof_truth.proofs.PartLaws.{book-exactly}
 use Rattle.fof_truth.proofs.BookLaws.{book-told, book-only}
@@ -34,7 +34,7 @@ use Rattle.fof_part.proofs.ExactLaws.{book-read}
 use Rattle.fof_part.proofs.MadeLaws.{book-made}
 use Rattle.fof_allowed.proofs.AllowedLaws.{book-sound}
 use Rattle.tptp.specs.Comes.{Refusal, Comes, ofMade, ofTokens, comesTo}
-use Rattle.tptp.specs.Meaning.{Spells, Holds, Says, Fits, Means}
+use Rattle.tptp.specs.Meaning.{Spells, Holds, Says, Means}
 
 -- the tests as statements
 long-text : (text : List ℕ) (a c : ℕ) → mostBytes < length text → comesTo text a c ≡ Comes.refused Refusal.tooLong
@@ -42,7 +42,7 @@ unfolding comesTo
 long-text text a c h =
     ap (λ (t : Bool). choose t (Comes.refused Refusal.tooLong) (choose (sound text) (ofTokens (tokens text) a c) (Comes.refused Refusal.unsound))) (lt-ltb mostBytes (length text) h)
 
-short-text : (text : List ℕ) (a c : ℕ) (t : Bool) → length text ≤ mostBytes → sound text ≡ t → comesTo text a c ≡ choose t (ofTokens (tokens text) a c) (Comes.refused Refusal.unsound)
+pub short-text : (text : List ℕ) (a c : ℕ) (t : Bool) → length text ≤ mostBytes → sound text ≡ t → comesTo text a c ≡ choose t (ofTokens (tokens text) a c) (Comes.refused Refusal.unsound)
 unfolding comesTo
 short-text text a c t h e =
     ap (λ (t : Bool). choose t (Comes.refused Refusal.tooLong) (choose (sound text) (ofTokens (tokens text) a c) (Comes.refused Refusal.unsound))) (le-ltb mostBytes (length text) h)

@@ -1,9 +1,8 @@
 -- From the bytes of the text to the bytes of the files (document 02, One: "What is written is true in the same structures as the TPTP formula"): what is written is read as rules and a goal that are
 -- as true as the axioms and the conjecture of the lines that the text spells, in file order, in every structure and for every logic.
 use Prim.Native.Nat.{ℕ, _≤_}
-use mathlib.Core.Path.{_≡_, refl, sym, _∙_, ap, ap₂, subst}
-use mathlib.Core.List.{List, [], _∷_, _++_, map}
-use mathlib.Core.Logic.{_↔_}
+use mathlib.Core.Path.{_≡_, refl, sym, _∙_, ap, ap₂}
+use mathlib.Core.List.{List, [], _∷_, map}
 use native.Mathlib.Omega.{arith}
 use lib.ListN.{length, take, drop}
 use lib.Seq.{take-append-seam, drop-append-seam}
@@ -17,14 +16,14 @@ use Rattle.calculus.specs.Translation.{goalFormula, clauseFormula}
 use Rattle.fof_truth.specs.Formula.{Line}
 use Rattle.fof_truth.specs.Truth.{Logic, Structure, truth, plainTruth}
 use Rattle.fof_truth.specs.Part.{axioms, conjectures, BookInPart}
-use Rattle.fof_truth.specs.Book.{Book, rulesFile, goalFile, Outcome, bookOf}
+use Rattle.fof_truth.specs.Book.{Book, rulesFile, goalFile, Outcome}
 use Rattle.fof_truth.specs.Meaning as lines
 use Rattle.fof_truth.proofs.BookLaws.{book-only, book-is-as-true}
 use Rattle.fof_truth.proofs.ReadLaws.{what-is-written-is-read}
 use Rattle.tptp.specs.declared.Converted.{Converted}
 use Rattle.tptp.specs.declared.Converted.the-variants as C
 use Rattle.tptp.specs.Comes.{Comes, comesTo, answered, over, rulesAfter, goalAfter, Converts}
-use Rattle.tptp.specs.Meaning.{Spells, Fits, Means}
+use Rattle.tptp.specs.Meaning.{Spells, Means}
 use Rattle.tptp.proofs.MeaningLaws.{text-told}
 use Rattle.tptp.proofs.AnswerLaws.{firstOf, secondOf, kindOf}
 
