@@ -1,11 +1,10 @@
 -- A line's parts, taken one after the other: what stands before its formula, the formula, and what closes it.
-use Prim.Native.Nat.{ℕ, _+_, _<_, _≤_}
+use Prim.Native.Nat.{ℕ, _+_, _<_}
 use mathlib.Core.Path.{_≡_, refl, sym, _∙_, ap, subst}
 use mathlib.Core.Bool.{Bool, true, false, false≢true}
-use mathlib.Core.List.{List, [], _∷_, _++_, append-nil}
+use mathlib.Core.List.{List, [], _∷_, append-nil}
 use mathlib.Core.Option.{Option, none, some}
 use native.Mathlib.Omega.{arith}
-use lib.ListN.{length}
 use Rattle.basics.specs.Choice.{choose, _>>=_, provided}
 use Rattle.basics.specs.Tells.{Tells, told-yes, told-no}
 use Rattle.basics.specs.Text.{octets}
@@ -16,7 +15,7 @@ use Rattle.sexp.specs.Words.{isName}
 use Rattle.fof_truth.specs.Formula as truth
 use Rattle.fof_part.specs.Sign.{Sign, code, opensCode, closesCode, commaCode, dotCode}
 use Rattle.fof_part.specs.Mark.{Mark}
-use Rattle.fof_part.specs.Due.{Sort, Ran, taking, formulaAt}
+use Rattle.fof_part.specs.Due.{Ran, taking, formulaAt}
 use Rattle.fof_part.specs.Lines.{word, roleOf, sortOf, introduced, Read, lineAt}
 use Rattle.fof_pass.specs.declared.ahead.Ahead.{Ahead}
 use Rattle.fof_pass.specs.declared.ink.Pen.{Pen}

@@ -16,10 +16,10 @@ use Rattle.fof_truth.specs.Formula.{Role}
 use Rattle.fof_truth.specs.Numbered.{Scope}
 use Rattle.fof_part.specs.Sign.{Sign, code, opensCode, closesCode, commaCode, dotCode}
 use Rattle.fof_part.specs.Mark.{Mark}
-use Rattle.fof_part.specs.Due.{Sort, Due, Ran, taking, run, costs, formulaAt, headed}
+use Rattle.fof_part.specs.Due.{Sort, Due, Ran, taking, run, formulaAt}
 use Rattle.fof_part.specs.Lines.{word, roleOf, sortOf, introduced, Read, lineAt, linesFrom, linesAt}
-use Rattle.fof_part.specs.Files.{axiomThen, conjectureThen, axiomsIn, conjecturesIn, joined, rulesMarks}
-use Rattle.fof_part.proofs.RunLaws.{run-step, run-none}
+use Rattle.fof_part.specs.Files.{axiomThen, conjectureThen, axiomsIn, conjecturesIn, joined}
+use Rattle.fof_part.proofs.RunLaws.{run-step}
 use Rattle.fof_part.proofs.CostLaws.{step-pays, costs-append, worth}
 use Rattle.fof_pass.specs.declared.ahead.Ahead.{Ahead}
 use Rattle.fof_pass.specs.declared.ink.Pen.{Pen}
@@ -27,7 +27,7 @@ use Rattle.fof_pass.specs.declared.lines.Passed.{Passed}
 use Rattle.fof_pass.specs.Ahead.{signsAt, SeesAll, Aheads}
 use Rattle.fof_pass.specs.Ink.{Inks}
 use Rattle.fof_pass.specs.Holding.{Roomy}
-use Rattle.fof_pass.specs.Lined.{opened, labelled, roled, Added, AddedAs, KeptBoth, Counted, begins, Filed, FiledAs}
+use Rattle.fof_pass.specs.Lined.{opened, labelled, roled, Added, AddedAs, KeptBoth, Counted, begins, FiledAs, Starts, Ends}
 use Rattle.fof_pass.proofs.InkLaws.{inks-none, inks-then}
 use Rattle.fof_pass.proofs.LineLaws.{unopened, then-opened}
 use Rattle.fof_pass.proofs.RunLaws.{signs-few}
@@ -196,10 +196,6 @@ pub record Sofar (t : List ℕ) (all : List Sign) (q : Passed) (rs rs′ gs gs�
   pub conjectures : p .conjectures ≡ length (conjecturesIn items)
   pub few : length items + left ≤ 16385
 
--- where it begins, the head of the rules' file is written
-abbrev pub starts : Pen → Passed
-starts r = record { ok = true; at = 0; rules = r; goal = begins; axioms = 0; conjectures = 0 }
-
 bind-self : (o : Option Items) → o ≡ (o >>= λ ls. some ls)
 bind-self none = refl
 bind-self (some ls) = refl
@@ -209,22 +205,22 @@ unfolding linesAt
 lines-given all n l = lines-enough (length all) n all (omega arith) l
 
 -- the same with so many lines to come, whatever number they are
-sofar-from : (t : List ℕ) (all : List Sign) (q : Passed) (rs gs : List ℕ) (left : ℕ) → left ≤ 16385 → length all ≤ left → q .ok ≡ true → q .at ≡ 0 → q .axioms ≡ 0 → q .conjectures ≡ 0 → signsAt t 0 ≡ some all → Sofar t all q rs rs gs gs q left
-sofar-from t all q rs gs left l m e a x c s = record {
+sofar-from : (t : List ℕ) (all : List Sign) (q : Passed) (rs₀ rs gs : List ℕ) (left : ℕ) → left ≤ 16385 → length all ≤ left → Starts rs₀ rs q → signsAt t 0 ≡ some all → Sofar t all q rs rs gs gs q left
+sofar-from t all q rs₀ rs gs left l m b s = record {
   items = [];
   signs = all;
-  there = ap (signsAt t) a ∙ s;
+  there = ap (signsAt t) (b .at) ∙ s;
   whole = lines-given all left m ∙ bind-self (linesFrom left all);
-  ok = e;
+  ok = b .ok;
   rules = inks-none (q .rules) rs;
   goal = inks-none (q .goal) gs;
-  axioms = x;
-  conjectures = c;
+  axioms = b .axioms;
+  conjectures = b .conjectures;
   few = omega arith;
 }
 
-pub sofar-start : (t : List ℕ) (all : List Sign) (q : Passed) (rs gs : List ℕ) (left : ℕ) → left ≡ 16385 → length t ≤ 16384 → q .ok ≡ true → q .at ≡ 0 → q .axioms ≡ 0 → q .conjectures ≡ 0 → signsAt t 0 ≡ some all → Sofar t all q rs rs gs gs q left
-sofar-start t all q rs gs left w l e a x c s = sofar-from t all q rs gs left (omega arith) (omega (arith, signs-few t 0 all s)) e a x c s
+pub sofar-start : (t : List ℕ) (all : List Sign) (q : Passed) (rs₀ rs gs : List ℕ) (left : ℕ) → left ≡ 16385 → length t ≤ 16384 → Starts rs₀ rs q → signsAt t 0 ≡ some all → Sofar t all q rs rs gs gs q left
+sofar-start t all q rs₀ rs gs left w l b s = sofar-from t all q rs₀ rs gs left (omega arith) (omega (arith, signs-few t 0 all s)) b s
 
 -- every sign has a number below 16
 code-few : (s : Sign) → code s < 16
@@ -266,15 +262,15 @@ module _ (t : List ℕ) (all : List Sign) (q : Passed) (rs rs′ gs gs′ : List
       ∙ ap (λ (o : Option Items). o >>= λ ls. some (h .items ++ ls)) (lines-none left)
       ∙ ap some (append-nil (h .items))
 
-  pub sofar-end : a .code ≡ 16 → {rs₀ rs″ : List ℕ} {pen : Pen} → q .goal ≡ begins → Inks (headed (octets "rules")) begins rs₀ rs (q .rules) → Inks (Mark.end ∷ []) (p .rules) rs′ rs″ pen → FiledAs (linesAt all) rs₀ rs″ gs gs′ (record { ok = p .ok; at = p .at; rules = pen; goal = p .goal; axioms = p .axioms; conjectures = p .conjectures })
-  sofar-end e {rs₀} {rs″} {pen} b i j =
-      subst (λ (o : Option Items). FiledAs o rs₀ rs″ gs gs′ (record { ok = p .ok; at = p .at; rules = pen; goal = p .goal; axioms = p .axioms; conjectures = p .conjectures })) (sym (all-read e))
+  pub sofar-end : a .code ≡ 16 → (rs₀ rs″ : List ℕ) (r : Passed) → Starts rs₀ rs q → Ends rs′ rs″ p r → FiledAs (linesAt all) rs₀ rs″ gs gs′ r
+  sofar-end e rs₀ rs″ r b z =
+      subst (λ (o : Option Items). FiledAs o rs₀ rs″ gs gs′ r) (sym (all-read e))
       (record {
-        ok = h .ok;
-        rules = inks-then (inks-then i (h .rules)) j;
-        goal = subst (λ (z : Pen). Inks (joined (conjecturesIn (h .items))) z gs gs′ (p .goal)) b (h .goal);
-        axioms = h .axioms;
-        conjectures = h .conjectures;
+        ok = z .ok ∙ h .ok;
+        rules = inks-then (inks-then (b .rules) (h .rules)) (z .rules);
+        goal = subst (λ (y : Pen). Inks (joined (conjecturesIn (h .items))) begins gs gs′ y) (sym (z .goal)) (subst (λ (y : Pen). Inks (joined (conjecturesIn (h .items))) y gs gs′ (p .goal)) (b .goal) (h .goal));
+        axioms = z .axioms ∙ h .axioms;
+        conjectures = z .conjectures ∙ h .conjectures;
       })
 
   module _ (n : a .code ≡ 16 → ⊥) where
@@ -354,5 +350,5 @@ pub kept-roomy : {st st1 ns ns1 rs rs1 gs gs1 : List ℕ} → KeptBoth st st1 ns
 kept-roomy a r = (omega (arith, a .stack, r .0), omega (arith, a .names, r .1))
 
 -- memory of these lengths is room enough
-pub room-for : (m n : ℕ) (st ns : List ℕ) → length st ≡ m → length ns ≡ n → (m ≤ length st) × (n ≤ length ns)
-room-for m n st ns e f = (omega arith, omega arith)
+pub room-for : (m n a b : ℕ) → a ≡ m → b ≡ n → (m ≤ a) × (n ≤ b)
+room-for m n a b e f = (omega arith, omega arith)

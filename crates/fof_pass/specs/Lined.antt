@@ -12,7 +12,7 @@ use Rattle.sexp.specs.Words.{isName}
 use Rattle.fof_truth.specs.Formula as truth
 use Rattle.fof_part.specs.Sign.{Sign, opensCode, closesCode, commaCode, dotCode}
 use Rattle.fof_part.specs.Mark.{Mark}
-use Rattle.fof_part.specs.Due.{Sort, Ran, taking, formulaAt}
+use Rattle.fof_part.specs.Due.{Sort, Ran, taking, formulaAt, headed}
 use Rattle.fof_part.specs.Lines.{word, roleOf, sortOf, introduced, Read, lineAt, linesAt}
 use Rattle.fof_part.specs.Files.{axiomThen, conjectureThen, axiomsIn, conjecturesIn, joined, rulesMarks}
 use Rattle.fof_pass.specs.declared.ink.Pen.{Pen}
@@ -118,6 +118,22 @@ pub record Passes (t rs rs′ gs gs′ : List ℕ) (r : Passed) : Type 0 where
   pub rules : length rs′ ≡ length rs
   pub goal : length gs′ ≡ length gs
   pub does : length t ≤ 16384 → (ss : List Sign) → signsAt t 0 ≡ some ss → FiledAs (linesAt ss) rs rs′ gs gs′ r
+
+-- before the first line, with the head of the rules' file, and behind the last, with its end
+pub record Starts (rs rs′ : List ℕ) (r : Passed) : Type 0 where
+  pub ok : r .ok ≡ true
+  pub at : r .at ≡ 0
+  pub rules : Inks (headed (octets "rules")) begins rs rs′ (r .rules)
+  pub goal : r .goal ≡ begins
+  pub axioms : r .axioms ≡ 0
+  pub conjectures : r .conjectures ≡ 0
+
+pub record Ends (rs rs′ : List ℕ) (p r : Passed) : Type 0 where
+  pub ok : r .ok ≡ p .ok
+  pub rules : Inks (Mark.end ∷ []) (p .rules) rs rs′ (r .rules)
+  pub goal : r .goal ≡ p .goal
+  pub axioms : r .axioms ≡ p .axioms
+  pub conjectures : r .conjectures ≡ p .conjectures
 
 -- the same with the work memory that is lent
 pub record PassesIn (t st st′ ns ns′ rs rs′ gs gs′ : List ℕ) (r : Passed) : Type 0 where

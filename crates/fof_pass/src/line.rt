@@ -10,6 +10,7 @@ use crate::run::formula;
 use sexp::is_name_of;
 use sexp::same;
 ghost use mathlib.Core.Path.{_≡_};
+ghost use mathlib.Core.Bool.{false};
 ghost use mathlib.Core.List.{List};
 ghost use mathlib.Core.Option.{some};
 ghost use Rattle.fof_part.specs.Sign.{Sign};
@@ -111,6 +112,20 @@ pub fn introduced(text: &[u8], at: usize) -> Opened
     role_ahead(text, n)
 }
 
+// What should close a line is not there.
+fn unclosed(n: Now) -> Now
+    ensures { λ r. ⌜ r .ok ≡ false ⌝ }
+{
+    let pen = n.pen;
+    Now {
+        ok: false,
+        at: n.at,
+        top: n.top,
+        bound: n.bound,
+        pen,
+    }
+}
+
 // The formula and what closes the line.
 pub fn body(
     text: &[u8],
@@ -127,25 +142,13 @@ pub fn body(
     if !n.ok {
         return n;
     }
-    let pen = n.pen;
     let Taken::Next(m) = take(text, n.at, 4) else {
-        return Now {
-            ok: false,
-            at: n.at,
-            top: n.top,
-            bound: n.bound,
-            pen,
-        };
+        return unclosed(n);
     };
     let Taken::Next(m) = take(text, m, 9) else {
-        return Now {
-            ok: false,
-            at: n.at,
-            top: n.top,
-            bound: n.bound,
-            pen,
-        };
+        return unclosed(n);
     };
+    let pen = n.pen;
     Now {
         ok: true,
         at: m,

@@ -12,7 +12,7 @@ ghost use mathlib.Core.Bool.{false};
 ghost use mathlib.Core.List.{List};
 ghost use Prim.Native.Nat.{ℕ, _+_, _<_};
 ghost use Rattle.fof_truth.specs.Formula as truth;
-ghost use Rattle.fof_pass.specs.Lined.{Lines, Adds, PassesIn, Passes};
+ghost use Rattle.fof_pass.specs.Lined.{Lines, Adds, Starts, Ends, PassesIn, Passes};
 
 // What became of the lines: whether all are of the part, both pens, and how many rules and goals there are.
 pub struct Passed {
@@ -31,6 +31,7 @@ fn more(n: usize) -> usize
     if n < 16385 { n + 1 } else { n }
 }
 
+// A line is none of the part.
 fn refused(p: Passed) -> Passed
     ensures { λ r. ⌜ r .ok ≡ false ⌝ }
 {
@@ -46,6 +47,7 @@ fn refused(p: Passed) -> Passed
     }
 }
 
+// An axiom, up to its end, into the rules' file.
 fn axiom(
     text: &[u8],
     rules: &mut [u8],
@@ -71,6 +73,7 @@ fn axiom(
     }
 }
 
+// A conjecture, up to its end, into the goal's.
 fn conjecture(
     text: &[u8],
     goal: &mut [u8],
@@ -96,6 +99,7 @@ fn conjecture(
     }
 }
 
+// One line, by its role.
 fn line(
     text: &[u8],
     rules: &mut [u8],
@@ -115,6 +119,44 @@ fn line(
     }
 }
 
+// No line is read yet; the head of the rules' file is written.
+fn started(rules: &mut [u8]) -> Passed
+    ensures { λ r. ⌜ Starts (now (rules .entry)) (now (rules .exit)) r ⌝ }
+{
+    let start = Pen {
+        at: 0,
+        depth: 0,
+        deep: false,
+    };
+    let pen = head(rules, start, b"rules");
+    Passed {
+        ok: true,
+        at: 0,
+        rules: pen,
+        goal: start,
+        axioms: 0,
+        conjectures: 0,
+    }
+}
+
+// All lines are read; the end of the rules' file is written.
+fn ended(rules: &mut [u8], p: Passed) -> Passed
+    ensures { λ r. ⌜ Ends (now (rules .entry)) (now (rules .exit)) p r ⌝ }
+{
+    let pen = p.rules;
+    let goal = p.goal;
+    let pen = end(rules, pen);
+    Passed {
+        ok: p.ok,
+        at: p.at,
+        rules: pen,
+        goal,
+        axioms: p.axioms,
+        conjectures: p.conjectures,
+    }
+}
+
+// The lines one after the other, until no sign is ahead; a text of 16,384 bytes has fewer than 16,385 of them.
 fn lines(
     text: &[u8],
     rules: &mut [u8],
@@ -124,35 +166,12 @@ fn lines(
 ) -> Passed
     ensures { λ r. ⌜ PassesIn (now (text .entry)) (now (stack .entry)) (now (stack .exit)) (now (names .entry)) (now (names .exit)) (now (rules .entry)) (now (rules .exit)) (now (goal .entry)) (now (goal .exit)) r ⌝ }
 {
-    let start = Pen {
-        at: 0,
-        depth: 0,
-        deep: false,
-    };
-    let r = head(rules, start, b"rules");
-    let mut p = Passed {
-        ok: true,
-        at: 0,
-        rules: r,
-        goal: start,
-        axioms: 0,
-        conjectures: 0,
-    };
+    let mut p = started(rules);
     let mut left = 16385usize;
     loop {
         let a = sign_ahead(text, p.at);
         if a.code == 16 {
-            let pen = p.rules;
-            let goal = p.goal;
-            let pen = end(rules, pen);
-            return Passed {
-                ok: p.ok,
-                at: p.at,
-                rules: pen,
-                goal,
-                axioms: p.axioms,
-                conjectures: p.conjectures,
-            };
+            return ended(rules, p);
         }
         if left == 0 {
             return refused(p);

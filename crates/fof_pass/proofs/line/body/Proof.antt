@@ -4,13 +4,14 @@ use Rattle.fof_pass.specs.Dues.{sortIs}
 use Rattle.fof_part.specs.Due.{formulaAt}
 use borrow.Author.Tests.{not-true, not-false}
 use mathlib.Core.Path.{refl}
-use mathlib.Core.Bool.{true, false}
+use mathlib.Core.Bool.{true}
 use borrow.Author.Needs.{needs}
 use Rattle.fof_pass.proofs.line.body.Statement.{statement}
 use Rattle.fof_pass.proofs.line.body.Tie as tie
 use Rattle.fof_pass.proofs.line.body.Reads as reads
 use Rattle.fof_pass.proofs.line.body.Lts as lts
 use Rattle.fof_pass.proofs.expected.take.Reads as take-reads
+use Rattle.fof_pass.proofs.line.unclosed.Reads as unclosed-reads
 use Rattle.fof_pass.proofs.run.formula.Reads as formula-reads
 
 -- src/line.rt:97:9
@@ -46,6 +47,10 @@ enum-told : tie.Need-enum-told
 enum-told c = search needs
 
 -- src/line.rt:103:9
+unclosed-requires : tie.Need-unclosed-requires
+unclosed-requires c κs = search needs
+
+-- src/line.rt:103:9
 same-length-4 : tie.Need-same-length-4
 same-length-4 c = search needs
 
@@ -59,7 +64,7 @@ same-length-6 c = search needs
 
 -- src/line.rt:103:9
 returns-2 : tie.Need-returns-2
-returns-2 c = let x = c .before .before .before .before .before .before .before .before .before .before .before .before .before .before .before .before .before .before .before .before .args in let n = c .before .before .before .before .before .before .before .before .before .before .before .before .formula .result in let e = c .before .before .before .before .before .before .before .before .before .before .before .before .formula .ensures in record { kept = e .kept; does = λ l m ss s. body-open (x .text .now) (x .buf .now) (c .before .before .before .before .before .before .before .before .before .before .before .before .formula .last .1 .1 .1 .0) (x .pen) n (record { ok = false; at = n .at; top = n .top; bound = n .bound; pen = n .pen }) (c .before .before .take .result) (c .before .before .take .ensures) (formulaAt (sortIs (x .sort)) ss) (not-false _ (c .before .before .before .before .if1 .left)) (c .enum-told .given .1) refl (e .does l m ss s) }
+returns-2 c = let x = c .before .before .before .before .before .before .before .before .before .before .before .before .before .before .before .before .before .before .before .before .args in let n = c .before .before .before .before .before .before .before .before .before .before .before .before .formula .result in let e = c .before .before .before .before .before .before .before .before .before .before .before .before .formula .ensures in record { kept = e .kept; does = λ l m ss s. body-open (x .text .now) (x .buf .now) (c .before .before .before .before .before .before .before .before .before .before .before .before .formula .last .1 .1 .1 .0) (x .pen) n (c .unclosed .result) (c .before .before .before .take .result) (c .before .before .before .take .ensures) (formulaAt (sortIs (x .sort)) ss) (not-false _ (c .before .before .before .before .if1 .left)) (c .before .enum-told .given .1) (c .unclosed .ensures) (e .does l m ss s) }
 
 -- src/line.rt:105:26
 take-requires-2 : tie.Need-take-requires-2
@@ -72,6 +77,10 @@ enum-known-m-2 c = search needs
 -- src/line.rt:106:9
 enum-told-2 : tie.Need-enum-told-2
 enum-told-2 c = search needs
+
+-- src/line.rt:106:9
+unclosed-requires-2 : tie.Need-unclosed-requires-2
+unclosed-requires-2 c κs = search needs
 
 -- src/line.rt:106:9
 same-length-7 : tie.Need-same-length-7
@@ -87,7 +96,7 @@ same-length-9 c = search needs
 
 -- src/line.rt:106:9
 returns-3 : tie.Need-returns-3
-returns-3 c = let x = c .before .before .before .before .before .before .before .before .before .before .before .before .before .before .before .before .before .before .before .before .before .before .before .before .args in let n = c .before .before .before .before .before .before .before .before .before .before .before .before .before .before .before .before .formula .result in let e = c .before .before .before .before .before .before .before .before .before .before .before .before .before .before .before .before .formula .ensures in record { kept = e .kept; does = λ l m ss s. body-undotted (x .text .now) (x .buf .now) (c .before .before .before .before .before .before .before .before .before .before .before .before .before .before .before .before .formula .last .1 .1 .1 .0) (x .pen) n (record { ok = false; at = n .at; top = n .top; bound = n .bound; pen = n .pen }) (c .before .before .before .before .before .before .take .result) (c .before .before .before .before .before .before .take .ensures) (c .before .before .before .before .m .given .0 .0) (c .before .before .before .before .m .given .1) (c .before .before .take2 .result) (c .before .before .take2 .ensures) (formulaAt (sortIs (x .sort)) ss) (not-false _ (c .before .before .before .before .before .before .before .before .if1 .left)) (c .enum-told2 .given .1) refl (e .does l m ss s) }
+returns-3 c = let x = c .before .before .before .before .before .before .before .before .before .before .before .before .before .before .before .before .before .before .before .before .before .before .before .before .args in let n = c .before .before .before .before .before .before .before .before .before .before .before .before .before .before .before .before .formula .result in let e = c .before .before .before .before .before .before .before .before .before .before .before .before .before .before .before .before .formula .ensures in record { kept = e .kept; does = λ l m ss s. body-undotted (x .text .now) (x .buf .now) (c .before .before .before .before .before .before .before .before .before .before .before .before .before .before .before .before .formula .last .1 .1 .1 .0) (x .pen) n (c .unclosed2 .result) (c .before .before .before .before .before .before .before .take .result) (c .before .before .before .before .before .before .before .take .ensures) (c .before .before .before .before .before .m .given .0 .0) (c .before .before .before .before .before .m .given .1) (c .before .before .before .take2 .result) (c .before .before .before .take2 .ensures) (formulaAt (sortIs (x .sort)) ss) (not-false _ (c .before .before .before .before .before .before .before .before .if1 .left)) (c .before .enum-told2 .given .1) (c .unclosed2 .ensures) (e .does l m ss s) }
 
 -- src/line.rt:94:1
 same-length-10 : tie.Need-same-length-10
@@ -103,7 +112,7 @@ same-length-12 c = search needs
 
 -- src/line.rt:94:1
 returns-4 : tie.Need-returns-4
-returns-4 c = let x = c .before .before .before .before .before .before .before .before .before .before .before .before .before .before .before .before .before .before .before .before .before .before .before .before .before .args in let n = c .before .before .before .before .before .before .before .before .before .before .before .before .before .before .before .before .before .formula .result in let e = c .before .before .before .before .before .before .before .before .before .before .before .before .before .before .before .before .before .formula .ensures in record { kept = e .kept; does = λ l m ss s. body-read (x .text .now) (x .buf .now) (c .before .before .before .before .before .before .before .before .before .before .before .before .before .before .before .before .before .formula .last .1 .1 .1 .0) (x .pen) n (record { ok = true; at = c .before .m2 .given .0 .0; top = n .top; bound = n .bound; pen = n .pen }) (c .before .before .before .before .before .before .before .take .result) (c .before .before .before .before .before .before .before .take .ensures) (c .before .before .before .before .before .m .given .0 .0) (c .before .before .before .before .before .m .given .1) (c .before .before .before .take2 .result) (c .before .before .before .take2 .ensures) (formulaAt (sortIs (x .sort)) ss) (not-false _ (c .before .before .before .before .before .before .before .before .before .if1 .left)) (c .before .m2 .given .0 .0) (c .before .m2 .given .1) refl refl refl (e .does l m ss s) }
+returns-4 c = let x = c .before .before .before .before .before .before .before .before .before .before .before .before .before .before .before .before .before .before .before .before .before .before .before .before .before .args in let n = c .before .before .before .before .before .before .before .before .before .before .before .before .before .before .before .before .before .formula .result in let e = c .before .before .before .before .before .before .before .before .before .before .before .before .before .before .before .before .before .formula .ensures in record { kept = e .kept; does = λ l m ss s. body-read (x .text .now) (x .buf .now) (c .before .before .before .before .before .before .before .before .before .before .before .before .before .before .before .before .before .formula .last .1 .1 .1 .0) (x .pen) n (record { ok = true; at = c .before .before .m2 .given .0 .0; top = n .top; bound = n .bound; pen = n .pen }) (c .before .before .before .before .before .before .before .before .take .result) (c .before .before .before .before .before .before .before .before .take .ensures) (c .before .before .before .before .before .before .m .given .0 .0) (c .before .before .before .before .before .before .m .given .1) (c .before .before .before .before .take2 .result) (c .before .before .before .before .take2 .ensures) (formulaAt (sortIs (x .sort)) ss) (not-false _ (c .before .before .before .before .before .before .before .before .before .if1 .left)) (c .before .before .m2 .given .0 .0) (c .before .before .m2 .given .1) refl refl refl (e .does l m ss s) }
 
 pub body-spec : {M : Type 1} → statement M
 body-spec =
@@ -117,6 +126,7 @@ body-spec =
     take-requires
     enum-known-m
     enum-told
+    unclosed-requires
     same-length-4
     same-length-5
     same-length-6
@@ -124,6 +134,7 @@ body-spec =
     take-requires-2
     enum-known-m-2
     enum-told-2
+    unclosed-requires-2
     same-length-7
     same-length-8
     same-length-9

@@ -5,7 +5,6 @@ use Rattle.fof_pass.specs.Ahead.{between}
 use Rattle.harrop.specs.Bindings.{sameName}
 use Rattle.basics.specs.Text.{octets}
 use borrow.Author.Tests.{not-true, not-false}
-use mathlib.Core.Path.{sym, _∙_, ap}
 use borrow.Author.Needs.{needs}
 use Rattle.fof_pass.proofs.line.opening.Statement.{statement}
 use Rattle.fof_pass.proofs.line.opening.Tie as tie
