@@ -33,20 +33,20 @@ use Rattle.fof_part.proofs.OnceLaws.{spelt-once}
 use Rattle.fof_part.proofs.ExactLaws.{book-read}
 use Rattle.fof_part.proofs.MadeLaws.{book-made}
 use Rattle.fof_allowed.proofs.AllowedLaws.{book-sound}
-use Rattle.tptp.specs.Comes.{Refusal, Comes, ofMade, ofTokens, comesTo}
+use Rattle.tptp.specs.Comes.{Refusal, Comes, ofMade, ofTokens, ofText, comesTo}
 use Rattle.tptp.specs.Meaning.{Spells, Holds, Says, Means}
 
 -- the tests as statements
 long-text : (text : List ℕ) (a c : ℕ) → mostBytes < length text → comesTo text a c ≡ Comes.refused Refusal.tooLong
 unfolding comesTo
 long-text text a c h =
-    ap (λ (t : Bool). choose t (Comes.refused Refusal.tooLong) (choose (sound text) (ofTokens (tokens text) a c) (Comes.refused Refusal.unsound))) (lt-ltb mostBytes (length text) h)
+    ap (λ (t : Bool). choose t (Comes.refused Refusal.tooLong) (ofText (sound text) (tokens text) a c)) (lt-ltb mostBytes (length text) h)
 
-pub short-text : (text : List ℕ) (a c : ℕ) (t : Bool) → length text ≤ mostBytes → sound text ≡ t → comesTo text a c ≡ choose t (ofTokens (tokens text) a c) (Comes.refused Refusal.unsound)
+pub short-text : (text : List ℕ) (a c : ℕ) (t : Bool) → length text ≤ mostBytes → sound text ≡ t → comesTo text a c ≡ ofText t (tokens text) a c
 unfolding comesTo
 short-text text a c t h e =
-    ap (λ (t : Bool). choose t (Comes.refused Refusal.tooLong) (choose (sound text) (ofTokens (tokens text) a c) (Comes.refused Refusal.unsound))) (le-ltb mostBytes (length text) h)
-    ∙ ap (λ (t : Bool). choose t (ofTokens (tokens text) a c) (Comes.refused Refusal.unsound)) e
+    ap (λ (t : Bool). choose t (Comes.refused Refusal.tooLong) (ofText (sound text) (tokens text) a c)) (le-ltb mostBytes (length text) h)
+    ∙ ap (λ (t : Bool). ofText t (tokens text) a c) e
 
 -- of a text that spells lines, what crate fof_truth says of them
 spelt-text : (text : List ℕ) (a c : ℕ) (ls : List Line) → length text ≤ mostBytes → Spells text ls → comesTo text a c ≡ ofMade (shown (bookOf ls a c))
@@ -95,11 +95,11 @@ module _ (text : List ℕ) (a c : ℕ) where
   unfolding comesTo
   text-told = go (ltb mostBytes (length text)) refl
     where
-      then : (t : Bool) → Tells t (Sound text) → length text ≤ mostBytes → Means text a c (choose t (ofTokens (tokens text) a c) (Comes.refused Refusal.unsound))
+      then : (t : Bool) → Tells t (Sound text) → length text ≤ mostBytes → Means text a c (ofText t (tokens text) a c)
       then true s h = sound-means h s (tokens text) refl
       then false s h = (h, s)
 
-      go : (t : Bool) → ltb mostBytes (length text) ≡ t → Means text a c (choose t (Comes.refused Refusal.tooLong) (choose (sound text) (ofTokens (tokens text) a c) (Comes.refused Refusal.unsound)))
+      go : (t : Bool) → ltb mostBytes (length text) ≡ t → Means text a c (choose t (Comes.refused Refusal.tooLong) (ofText (sound text) (tokens text) a c))
       go true e = ltb-true mostBytes (length text) e
       go false e = then (sound text) (sound-exactly text) (ltb-false mostBytes (length text) e)
 

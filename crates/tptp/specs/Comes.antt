@@ -2,6 +2,7 @@
 -- Which texts the grammar allows is crate fof_grammar's `sound`, what the lines are written as is crate fof_part's `madeOf`; that this is what document 02 asks is shown in proofs/.
 use Prim.Native.Nat.{ℕ}
 use mathlib.Core.Path.{_≡_}
+use mathlib.Core.Bool.{Bool}
 use mathlib.Core.List.{List, _++_}
 use mathlib.Core.Option.{Option}
 use lib.Dec.{ltb}
@@ -43,11 +44,13 @@ ofMade (Made.refused w) = Comes.refused (Refusal.lines w)
 abbrev pub ofTokens : Option (List Token) → ℕ → ℕ → Comes
 ofTokens o a c = maybe o (Comes.refused Refusal.unsound) λ ts. ofMade (madeOf (linesAt (signs ts)) a c)
 
--- 1, then 12, each asked of the whole text before the lines; a and c are the lengths of the two buffers
+-- 12, asked of the whole text before the lines
+abbrev pub ofText : Bool → Option (List Token) → ℕ → ℕ → Comes
+ofText t o a c = choose t (ofTokens o a c) (Comes.refused Refusal.unsound)
+
+-- 1 before all others; a and c are the lengths of the two buffers
 unfoldable pub comesTo : List ℕ → ℕ → ℕ → Comes
-comesTo text a c =
-    choose (ltb mostBytes (length text)) (Comes.refused Refusal.tooLong)
-    (choose (sound text) (ofTokens (tokens text) a c) (Comes.refused Refusal.unsound))
+comesTo text a c = choose (ltb mostBytes (length text)) (Comes.refused Refusal.tooLong) (ofText (sound text) (tokens text) a c)
 
 -- the answer: all refusals are of file 1, with place 0
 abbrev pub answered : Comes → Converted
