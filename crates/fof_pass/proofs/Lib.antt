@@ -3,9 +3,3 @@ pub mod DueLaws
 pub mod AheadLaws
 pub mod NameLaws
 pub mod TakeLaws
-pub mod ChainLaws
-pub mod ActLaws
-pub mod RunLaws
-pub mod PlanLaws
-pub mod LineLaws
-pub mod LinesLaws

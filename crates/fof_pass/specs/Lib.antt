@@ -3,7 +3,3 @@ pub mod Dues
 pub mod Ahead
 pub mod Names
 pub mod Taking
-pub mod Chained
-pub mod Planned
-pub mod Holding
-pub mod Lined

@@ -25,9 +25,9 @@ use Rattle.fof_part.specs.Lines.{linesAt}
 use Rattle.fof_part.specs.Files.{axiomsIn, conjecturesIn, joined, rulesMarks}
 use Rattle.fof_part.specs.Made.{Made, onlyMarks, byTests, areDeep, areLong, sizedMarks, madeFrom, madeOf}
 use Rattle.fof_pass.specs.declared.ink.Pen.{Pen}
-use Rattle.fof_pass.specs.declared.lines.Passed.{Passed}
+use Rattle.fof_lines.specs.declared.lines.Passed.{Passed}
 use Rattle.fof_pass.specs.Ink.{Inks}
-use Rattle.fof_pass.specs.Lined.{begins, FiledAs, Passes}
+use Rattle.fof_lines.specs.Lined.{begins, FiledAs, Passes}
 use Rattle.tptp.specs.declared.Converted.{Converted}
 use Rattle.tptp.specs.declared.Converted.the-variants as C
 use Rattle.tptp.specs.Comes.{Refusal, number, Comes, ofMade, ofTokens, comesTo, answered, over, rulesAfter, goalAfter, Converts}

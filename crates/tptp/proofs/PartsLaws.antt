@@ -21,10 +21,10 @@ use Rattle.fof_part.specs.Lines.{linesAt}
 use Rattle.fof_part.specs.Files.{axiomsIn, conjecturesIn, joined, rulesMarks}
 use Rattle.fof_part.specs.Made.{Made, onlyMarks, byTests, areDeep, areLong, sizedMarks, madeFrom, madeOf}
 use Rattle.fof_pass.specs.declared.ink.Pen.{Pen}
-use Rattle.fof_pass.specs.declared.lines.Passed.{Passed}
+use Rattle.fof_lines.specs.declared.lines.Passed.{Passed}
 use Rattle.fof_pass.specs.Ahead.{signsAt}
 use Rattle.fof_pass.specs.Ink.{Level, Inks}
-use Rattle.fof_pass.specs.Lined.{begins, FiledAs, Passes}
+use Rattle.fof_lines.specs.Lined.{begins, FiledAs, Passes}
 use Rattle.fof_pass.proofs.InkLaws.{deep-is}
 use Rattle.tptp.specs.Parts.{madeNumber, Measured, Sized, SizedAs, Measures, Reasons}
 

@@ -18,7 +18,7 @@ use Rattle.fof_part.specs.Lines.{linesAt}
 use Rattle.fof_part.specs.Files.{axiomsIn, conjecturesIn, joined, rulesMarks}
 use Rattle.fof_part.specs.Made.{Made, madeOf}
 use Rattle.fof_pass.specs.declared.ink.Pen.{Pen}
-use Rattle.fof_pass.specs.declared.lines.Passed.{Passed}
+use Rattle.fof_lines.specs.declared.lines.Passed.{Passed}
 
 -- 0 where there are files, else the number of the refusal
 abbrev pub madeNumber : Made → ℕ

@@ -1,8 +1,8 @@
 // A rule book in TPTP (document 02, One): its axioms become a file of rules, its conjecture a goal file, both canonical; or one refusal of file 1.
 // The lines are read twice: first to learn whether and how much there is to write, then to write. So on a refusal nothing was written.
 use fof_grammar::sound_text;
-use fof_pass::Passed;
-use fof_pass::pass;
+use fof_lines::Passed;
+use fof_lines::pass;
 ghost use mathlib.Core.Path.{_≡_};
 ghost use Prim.Native.Nat.{min};
 ghost use lib.Dec.{leb};
