@@ -43,3 +43,4 @@ stored carrier_cases carrier
 stored_parts packet_cases packet 1 2
 stored_halves judge_cases judge
 stored_parts search_cases search 1 2 3 4
+stored_parts tptp_cases tptp 1 2 3 4

@@ -11,7 +11,7 @@ use Rattle.basics.specs.Choice.{provided}
 use Rattle.fof_part.specs.Sign.{Sign, code}
 use Rattle.fof_part.specs.Due.{taking}
 use Rattle.fof_pass.specs.declared.ahead.Ahead.{Ahead}
-use Rattle.fof_pass.specs.declared.take.Taken.the-variants as T
+use Rattle.fof_pass.specs.declared.expected.Taken.the-variants as T
 use Rattle.fof_pass.specs.Ahead.{signsAt, SeesAll, Aheads}
 use Rattle.fof_pass.specs.Taking.{TakesTo}
 

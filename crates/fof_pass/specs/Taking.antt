@@ -4,8 +4,8 @@ use mathlib.Core.Path.{_≡_}
 use mathlib.Core.List.{List}
 use mathlib.Core.Option.{Option, none, some}
 use Rattle.fof_part.specs.Sign.{Sign}
-use Rattle.fof_pass.specs.declared.take.Taken.{Taken}
-use Rattle.fof_pass.specs.declared.take.Taken.the-variants as T
+use Rattle.fof_pass.specs.declared.expected.Taken.{Taken}
+use Rattle.fof_pass.specs.declared.expected.Taken.the-variants as T
 use Rattle.fof_pass.specs.Ahead.{signsAt}
 
 abbrev pub TakesTo : List ℕ → Taken → Option (List Sign) → Type 0

@@ -10,7 +10,7 @@ ghost use Rattle.fof_part.specs.Sign.{code, signOf};
 ghost use Rattle.fof_pass.specs.Ahead.{between, Aheads};
 
 // The number of a sign, and where its bytes start and end; 16 where there is none.
-pub(crate) struct Ahead {
+pub struct Ahead {
     pub code: usize,
     pub start: usize,
     pub end: usize,
@@ -24,7 +24,7 @@ fn nearer(a: usize, b: usize) -> usize
 }
 
 // The bytes from one place to another.
-pub(crate) fn cut(text: &[u8], start: usize, end: usize) -> &[u8]
+pub fn cut(text: &[u8], start: usize, end: usize) -> &[u8]
     ensures { λ r. ⌜ now r ≡ between (now (text .entry)) start end ⌝ }
 {
     let e = nearer(end, text.len());
@@ -95,7 +95,7 @@ fn none_at(at: usize) -> Ahead
 }
 
 // What is ahead of an offset.
-pub(crate) fn sign_ahead(text: &[u8], at: usize) -> Ahead
+pub fn sign_ahead(text: &[u8], at: usize) -> Ahead
     ensures { λ r. ⌜ Aheads (now (text .entry)) at r ⌝ }
 {
     match next_token(text, at) {

@@ -5,14 +5,14 @@ ghost use lib.ListN.{getD, set};
 ghost use Rattle.fof_pass.specs.Dues.{sortBy, sortWord, choiceWord, lateBy, dueBy, dueOf, WordOf, Pushes};
 
 // What a formula has to be.
-pub(crate) enum Sort {
+pub enum Sort {
     Goal,
     Clause,
     Head,
 }
 
 // What is due; `Nothing` stands where nothing is.
-pub(crate) enum Due {
+pub enum Due {
     Nothing,
     Formula(Sort),
     Unit(Sort),
@@ -170,21 +170,21 @@ fn due_by(k: usize, sort: Sort, set: bool, n: usize) -> Due
 }
 
 // The due that a word stands for.
-pub(crate) fn due_of(w: usize) -> Due
+pub fn due_of(w: usize) -> Due
     ensures { λ r. ⌜ r ≡ dueOf w ⌝ }
 {
     due_by(w % 16, sort_of(w), w / 64 % 2 == 1, w / 128)
 }
 
 // An entry of a list of numbers; 0 behind its end.
-pub(crate) fn entry(s: &[usize], i: usize) -> usize
+pub fn entry(s: &[usize], i: usize) -> usize
     ensures { λ r. ⌜ r ≡ getD (now (s .entry)) i 0 ⌝ }
 {
     if i < s.len() { s[i] } else { 0 }
 }
 
 // An entry written, if there is room for it.
-pub(crate) fn enter(s: &mut [usize], i: usize, w: usize)
+pub fn enter(s: &mut [usize], i: usize, w: usize)
     ensures { λ r. ⌜ now (s .exit) ≡ set (now (s .entry)) i w ⌝ }
 {
     if i < s.len() {
@@ -193,7 +193,7 @@ pub(crate) fn enter(s: &mut [usize], i: usize, w: usize)
 }
 
 // One due more, and the height then; where nothing is due, none.
-pub(crate) fn push(stack: &mut [usize], top: usize, d: Due) -> usize
+pub fn push(stack: &mut [usize], top: usize, d: Due) -> usize
     ensures { λ r. ⌜ Pushes d (now (stack .entry)) (now (stack .exit)) top r ⌝ }
 {
     let w = word_of(d);

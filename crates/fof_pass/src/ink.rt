@@ -17,7 +17,7 @@ pub struct Pen {
 }
 
 // A list is begun.
-pub(crate) fn begin(buf: &mut [u8], pen: Pen) -> Pen
+pub fn begin(buf: &mut [u8], pen: Pen) -> Pen
     ensures { λ r. ⌜ Inks (Mark.begin ∷ []) pen (now (buf .entry)) (now (buf .exit)) r ⌝ }
 {
     let at = put_byte(buf, pen.at, b'(');
@@ -36,7 +36,7 @@ pub(crate) fn begin(buf: &mut [u8], pen: Pen) -> Pen
 }
 
 // A string.
-pub(crate) fn string(buf: &mut [u8], pen: Pen, word: &[u8]) -> Pen
+pub fn string(buf: &mut [u8], pen: Pen, word: &[u8]) -> Pen
     ensures { λ r. ⌜ Inks (Mark.string (now (word .entry)) ∷ []) pen (now (buf .entry)) (now (buf .exit)) r ⌝ }
 {
     let m = put_decimal(buf, pen.at, word.len());
@@ -50,7 +50,7 @@ pub(crate) fn string(buf: &mut [u8], pen: Pen, word: &[u8]) -> Pen
 }
 
 // A number as a string.
-pub(crate) fn number(buf: &mut [u8], pen: Pen, i: usize) -> Pen
+pub fn number(buf: &mut [u8], pen: Pen, i: usize) -> Pen
     ensures { λ r. ⌜ Inks (Mark.string (decimal i) ∷ []) pen (now (buf .entry)) (now (buf .exit)) r ⌝ }
 {
     let at = put_number(buf, pen.at, i);
@@ -62,7 +62,7 @@ pub(crate) fn number(buf: &mut [u8], pen: Pen, i: usize) -> Pen
 }
 
 // The end of a list.
-pub(crate) fn end(buf: &mut [u8], pen: Pen) -> Pen
+pub fn end(buf: &mut [u8], pen: Pen) -> Pen
     ensures { λ r. ⌜ Inks (Mark.end ∷ []) pen (now (buf .entry)) (now (buf .exit)) r ⌝ }
 {
     let at = put_byte(buf, pen.at, b')');
@@ -81,7 +81,7 @@ pub(crate) fn end(buf: &mut [u8], pen: Pen) -> Pen
 }
 
 // A list is begun with a word.
-pub(crate) fn head(buf: &mut [u8], pen: Pen, word: &[u8]) -> Pen
+pub fn head(buf: &mut [u8], pen: Pen, word: &[u8]) -> Pen
     ensures { λ r. ⌜ Inks (headed (now (word .entry))) pen (now (buf .entry)) (now (buf .exit)) r ⌝ }
 {
     let p = begin(buf, pen);
@@ -89,7 +89,7 @@ pub(crate) fn head(buf: &mut [u8], pen: Pen, word: &[u8]) -> Pen
 }
 
 // So many lists are begun with a word.
-pub(crate) fn heads(buf: &mut [u8], pen: Pen, word: &[u8], n: usize) -> Pen
+pub fn heads(buf: &mut [u8], pen: Pen, word: &[u8], n: usize) -> Pen
     ensures { λ r. ⌜ Inks (manyHeaded (now (word .entry)) n) pen (now (buf .entry)) (now (buf .exit)) r ⌝ }
 {
     let mut p = pen;

@@ -8,13 +8,13 @@ ghost use Rattle.fof_truth.specs.Numbered.{Scope, numberOf};
 ghost use Rattle.fof_pass.specs.Names.{Scoped, numberIs};
 
 // The number of a variable, if it is bound.
-pub(crate) enum Number {
+pub enum Number {
     Free,
     Bound(usize),
 }
 
 // How many variables are nearer than the nearest of this name.
-pub(crate) fn number_of(text: &[u8], names: &[usize], bound: usize, x: &[u8]) -> Number
+pub fn number_of(text: &[u8], names: &[usize], bound: usize, x: &[u8]) -> Number
     ensures { λ r. ⌜ ((sc : Scope) → Scoped (now (text .entry)) (now (names .entry)) bound sc → numberIs r ≡ numberOf sc (now (x .entry))) ⌝ }
 {
     let mut i = 0;

@@ -1,5 +1,6 @@
-// What the programs share: a file is read, a word of digits is a number, a line is printed.
+// What the programs share: a file is read, or made and named, a word of digits is a number, a line is printed.
 mod cases;
+mod saved;
 mod word;
 
 pub use cases::Part;
@@ -7,6 +8,8 @@ pub use cases::string;
 use libc::STDOUT_FILENO;
 use packet::File;
 use packet::Reason;
+pub use saved::give_name;
+pub use saved::put_aside;
 pub use word::number;
 ghost use Rattle.io.specs.Counts.{Counts};
 
@@ -50,10 +53,19 @@ pub fn say_number(n: u64) {
     io::print_decimal(STDOUT_FILENO, n);
 }
 
+// Prints a refusal by its numbers, without the end of its line.
+pub fn say_numbers(reason: u64, file: u64, place: u64) {
+    say(b"refused");
+    say_number(reason);
+    say_number(file);
+    say_number(place);
+}
+
 // Prints a refusal in the paper's numbers, without the end of its line.
 pub fn say_refused(reason: Reason, file: File, place: usize) {
-    say(b"refused");
-    say_number(packet::reason_number(reason) as u64);
-    say_number(packet::file_number(file) as u64);
-    say_number(place as u64);
+    say_numbers(
+        packet::reason_number(reason) as u64,
+        packet::file_number(file) as u64,
+        place as u64,
+    );
 }

@@ -1,7 +1,9 @@
 // search HEIGHT [SIZE]: reads rules.sx, goal.sx and terms.sx in the present directory, searches the first strip within HEIGHT and of at most SIZE bytes, leaves it in strip.sx
 // and prints one line (document 01, "What comes back"). Refused, it leaves strip.sx as it was.
 use libc::STDERR_FILENO;
+use programs::give_name;
 use programs::load;
+use programs::put_aside;
 use programs::say;
 use programs::say_number;
 use programs::say_refused;
@@ -44,33 +46,12 @@ fn size(count: usize) -> Value
     }
 }
 
-// Writes bytes to an open file and shuts it. Whether both went well.
-fn filled(fd: i32, bytes: &[u8]) -> bool {
-    let whole = io::write_all(fd, bytes);
-    if libc::close(fd) < 0 {
-        return false;
-    }
-    whole
-}
-
-// Writes the strip whole under another name, which must be free, and then gives it its own. Whether that was done; if not, a line on standard error says why.
+// Leaves the strip in strip.sx. Whether that was done; if not, a line on standard error says why.
 fn save(strip: &[u8]) -> bool {
-    let fd = os::create(b"strip.sx.new");
-    if fd < 0 {
-        os::fail(b"search: strip.sx.new");
+    if !put_aside(b"strip.sx.new", b"search: strip.sx.new", strip) {
         return false;
     }
-    if !filled(fd, strip) {
-        os::fail(b"search: strip.sx.new");
-        os::unlink(b"strip.sx.new");
-        return false;
-    }
-    if os::rename(b"strip.sx.new", b"strip.sx") < 0 {
-        os::fail(b"search: strip.sx");
-        os::unlink(b"strip.sx.new");
-        return false;
-    }
-    true
+    give_name(b"strip.sx.new", b"strip.sx", b"search: strip.sx")
 }
 
 // Searches, leaves the strip that is found, and prints the answer.

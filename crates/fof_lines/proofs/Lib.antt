@@ -1,0 +1,4 @@
+pub mod ActLaws
+pub mod RunLaws
+pub mod LineLaws
+pub mod LinesLaws

@@ -1,0 +1,4 @@
+pub mod Comes
+pub mod Meaning
+pub mod Parts
+pub mod Cases
