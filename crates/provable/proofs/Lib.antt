@@ -9,8 +9,8 @@ pub mod AlikeLaws
 pub mod CompletesLaws
 pub mod LookedLaws
 pub mod FillingLaws
-pub mod ForcingLaws
 pub mod PassingLaws
 pub mod PlainLaws
 pub mod PartsLaws
 pub mod SettleLaws
+pub mod FillLaws

@@ -3,16 +3,16 @@
 use Prim.Native.Nat.{ℕ, suc, _+_, _-_, _≤_, _<_}
 use native.Mathlib.Omega.{arith}
 use mathlib.Core.Path.{_≡_, refl, sym, _∙_, ap, ap₂, subst}
-use mathlib.Core.Bool.{Bool, true, false, _&&_, false≢true}
+use mathlib.Core.Bool.{Bool, true, false, _&&_}
 use mathlib.Core.List.{List, _∷_}
-use mathlib.Core.Option.{Option, some}
+use mathlib.Core.Option.{Option}
 use lib.Dec.{ltb, leb}
-use lib.ListN.{length, getD, getElem?, drop, set, length-set}
+use lib.ListN.{length, getD, drop, set, length-set}
 use Rattle.basics.specs.Choice.{maybe}
 use Rattle.basics.specs.Text.{octets}
 use Rattle.harrop.specs.declared.Binding.the-variants.{Candidate}
 use Rattle.harrop.specs.Formula.{Term, Atom, Goal, Clause}
-use Rattle.harrop.specs.Bindings.{Bindings, nothing, replacedAtom, sameAtom}
+use Rattle.harrop.specs.Bindings.{Bindings}
 use Rattle.harrop.specs.Place.{AtHand, Hand, Plain, listed}
 use Rattle.sexp.specs.declared.skip.After.{After}
 use Rattle.sexp.specs.declared.skip.After.the-variants as A
@@ -25,36 +25,29 @@ use Rattle.packet.specs.declared.Kind.the-variants as K
 use Rattle.packet.specs.declared.table.Row.the-variants as R
 use Rattle.packet.specs.Rows.{rowOf}
 use Rattle.packet.specs.Table.{dueAfter}
-use Rattle.packet.specs.Barred.{termOk, goalOk, atomOk, clauseOk}
+use Rattle.packet.specs.Barred.{goalOk, clauseOk}
 use Rattle.packet.specs.Written.{goalSexp, clauseSexp}
 use Rattle.room.specs.Layout.{candidatesWord, highestWord}
 use Rattle.room.specs.Frame.{bindingWord, held, bindingsIn}
-use Rattle.room.specs.Table.{CandidatesIn}
-use Rattle.room.specs.Term.{SameAtoms}
 use Rattle.room.specs.Where.{Files, Kept, Framed, plus, further}
 use Rattle.room.specs.declared.Spot.{Spot}
 use Rattle.room.specs.declared.Where.{Where}
-use Rattle.room.proofs.AtomLaws.{same-there}
-use Rattle.room.proofs.FrameLaws.{frame-pushed, frame-length}
+use Rattle.room.proofs.FrameLaws.{frame-pushed}
 use Rattle.room.proofs.NestLaws.{clause-nests}
 use Rattle.room.proofs.WhereLaws.{kept-then, kept-less, framed-kept, file-small, plus-inside, push-keeps}
 use Rattle.room.proofs.MoveLaws.{hand-higher}
 use Rattle.provable.specs.Hand.{deeper, Opened}
 use Rattle.provable.specs.Provable as spec
-use Rattle.provable.specs.Proving.{Ready, Taken, Answers, Proving, ProvingBy, Passing, PassingAs, PassingWith, passes, passesWith}
+use Rattle.provable.specs.Proving.{Ready, Taken, Answers, ProvingBy, Passing, PassingAs, PassingWith, passes, passesWith}
 use Rattle.provable.specs.declared.Chosen.{Chosen}
 use Rattle.provable.specs.declared.Chosen.the-variants as C
 use Rattle.heads.specs.Predicate.{HasHead}
-use Rattle.force.specs.declared.Forced.{Forced}
-use Rattle.force.specs.declared.Forced.the-variants as F
-use Rattle.force.specs.Forced.{byHead, AtomIn, ClauseIn, ByHead}
 use Rattle.provable.proofs.HeadlessLaws.{headless}
-use Rattle.provable.proofs.ForcingLaws.{only-forced}
 use Rattle.provable.proofs.WalkLaws.{any-here, any-none}
 use Rattle.heads.proofs.HeadLaws.{clause-says, clause-is, clause-has-row, heads, first-part, second-found, first-found}
 use Rattle.provable.proofs.ReadyLaws.{may-be, allowed-below, ready-kept}
 use Rattle.provable.proofs.HandLaws.{opened-none, opened-clause}
-use Rattle.provable.proofs.ProvingLaws.{bytesAt, and-no, and-yes, or-yes, or-no, proving-at, both-of}
+use Rattle.provable.proofs.ProvingLaws.{bytesAt, and-no, and-yes, or-yes, or-no, both-of}
 
 module _ {f : Files} {room : List ℕ} {ds : List (Clause Plain)} {us : List Term} {w : Where} {x : Spot} {left : ℕ} {o : List Plain} {c : Hand Plain} {bs : Bindings} {a : Atom} {d : Clause Plain} {bs′ : Bindings} (t : Taken f room ds us w x left o c bs a d bs′) where
   -- a part of what stands there
@@ -139,35 +132,6 @@ ready-body {f} {room} {ds} {us} {w} {x} t n g h l ok =
       long = t .ready .long;
     }
 
--- the clause below an `all`, and the atom, as the look at the head asks for them
-module _ {f : Files} {room : List ℕ} {ds : List (Clause Plain)} {us : List Term} {w : Where} {x : Spot} {left : ℕ} {o : List Plain} {c : Hand Plain} {bs : Bindings} {a : Atom} {q : Plain} {d : Clause Plain} {bs′ : Bindings} (t : Taken f room ds us w x left o c bs a (Clause.allD q d) bs′) where
-  below-clause : ClauseIn f (further x 6) (suc (length bs′)) d
-  below-clause =
-      let st = first-part (octets "all") (heads .1 .1 .1 .0) (t .framed .stands) in
-      let small = file-small (t .ready .place .booked) (x .source) in
-      let many = ap length (sym (t .framed .holds)) ∙ frame-length room (x .base) (x .count) in
-      record {
-        stands = subst (λ (i : ℕ). Stands (bytesAt f x) i (clauseSexp d)) (sym (plus-inside (bytesAt f x) (x .at) 6 small st)) st;
-        shallow = omega (arith, t .framed .shallow, many);
-        small = small;
-        scoped = t .scoped;
-      }
-
-  asked-atom : AtomIn f (w .goal) (length bs) a
-  asked-atom =
-      let place = t .ready .place in
-      let many = ap length (sym (place .framed .holds)) ∙ frame-length room (w .goal .base) (w .goal .count) in
-      record {
-        stands = place .framed .stands;
-        shallow = omega (arith, place .framed .shallow, many);
-        small = file-small (place .booked) (w .goal .source);
-        scoped = place .scoped;
-      }
-
--- no candidate is `e` 0
-no-stand-in : {room terms : List ℕ} {us : List Term} → CandidatesIn room terms us → (i : ℕ) (t : Term) → getElem? us i ≡ some t → t ≡ nothing → ⊥
-no-stand-in C i t e z = false≢true (subst (λ (u : Term). termOk true 0 u ≡ true) z (C .closed i t e))
-
 -- what is claimed of a clause
 abbrev Claim : Files → List ℕ → List ℕ → List (Clause Plain) → List Term → Where → Spot → ℕ → ℕ → List Plain → Hand Plain → Bindings → Atom → Bindings → Bool → Clause Plain → Type 0
 Claim f room after ds us w x nest left o c bs a bs′ r d =
@@ -201,54 +165,6 @@ module _ {f : Files} {room : List ℕ} {w : Where} {x : Spot} {left : ℕ} where
   -- no clause has any other word
   pub by-other : (nest : ℕ) (k : Word) → WordAt (drop (x .at) (bytesAt f x)) 1 k → R.Nothing ≡ rowOf (dueAfter K.Clause k) → Passing f room room w x nest left false
   by-other nest k q n ds us o c bs a d bs′ l t = absurd (clause-has-row d k (clause-says (bytesAt f x) (x .at) d k (t .framed .stands) q) n)
-
-  -- an atom
-  pub atom-same : {s : Bool} (nest : ℕ) → SameAtoms (f .rules) (f .goal) (f .terms) room x (w .goal) s → PassingAs W.Atom f room room w x nest left s
-  unfolding spec.through spec.ending
-  atom-same {s} nest p ds us o c bs a d bs′ h =
-      let (b, n) = clause-is d h in
-      subst (Claim f room room ds us w x (suc nest) left o c bs a bs′ s) (sym n)
-      (λ l t.
-      let m = t .ready .place in
-      record {
-        kept = λ i k. refl;
-        answer = same-there us b a s p (m .booked .candidates) (t .framed) (t .scoped) (m .framed) (m .scoped);
-      })
-
-  -- a goal that implies an atom
-  pub imp-lost : {q : After} (nest : ℕ) → PastAt (drop (x .at) (bytesAt f x)) 6 64 q → q ≡ A.Nothing → PassingAs W.Imp f room room w x nest left false
-  imp-lost nest p e ds us o c bs a d bs′ h =
-      let (g, b, n) = clause-is d h in
-      subst (Claim f room room ds us w x (suc nest) left o c bs a bs′ false) (sym n)
-      (λ l t. absurd (first-found (octets "imp") (heads .1 .1 .1 .1) (t .framed .stands) (omega (arith, t .framed .shallow)) p e))
-
-  -- its atom
-  imp-atom : {ds : List (Clause Plain)} {us : List Term} {o : List Plain} {c : Hand Plain} {bs : Bindings} {a : Atom} {g : Goal Plain} {b : Atom} {bs′ : Bindings} {q : After} {n : ℕ} {y : Spot} {s : Bool}
-      → Taken f room ds us w x left o c bs a (Clause.impD g b) bs′ → PastAt (drop (x .at) (bytesAt f x)) 6 64 q → q ≡ A.Next n → y ≡ further x n → SameAtoms (f .rules) (f .goal) (f .terms) room y (w .goal) s
-      → s ≡ sameAtom (replacedAtom us bs′ b) (replacedAtom us bs a)
-  imp-atom {us = us} {a = a} {g = g} {b = b} {bs′ = bs′} {n = n} {s = s} t p e i k =
-      let m = t .ready .place in
-      let fr = part-framed t n (second-found (octets "imp") (heads .1 .1 .1 .1) (t .framed .stands) p e) (omega arith) in
-      same-there us b a s (subst (λ (z : Spot). SameAtoms (f .rules) (f .goal) (f .terms) room z (w .goal) s) i k) (m .booked .candidates) fr (both-of (goalOk (length bs′) g) (atomOk (length bs′) b) (t .scoped) .1) (m .framed) (m .scoped)
-
-  pub imp-other : {q : After} {n : ℕ} {y : Spot} {s : Bool} (nest : ℕ) → PastAt (drop (x .at) (bytesAt f x)) 6 64 q → q ≡ A.Next n → y ≡ further x n → SameAtoms (f .rules) (f .goal) (f .terms) room y (w .goal) s → s ≡ false → PassingAs W.Imp f room room w x nest left false
-  unfolding spec.through spec.ending
-  imp-other nest p e i k z ds us o c bs a d bs′ h =
-      let (g, b, n) = clause-is d h in
-      subst (Claim f room room ds us w x (suc nest) left o c bs a bs′ false) (sym n)
-      (λ l t. record { kept = λ i k. refl; answer = and-no (spec.provable (listed us) left o c bs′ g) (imp-atom t p e i k) z })
-
-  pub imp-body : {after : List ℕ} {q : After} {n : ℕ} {y : Spot} {v : Where} {s r : Bool} (nest : ℕ) → PastAt (drop (x .at) (bytesAt f x)) 6 64 q → q ≡ A.Next n → y ≡ further x n → SameAtoms (f .rules) (f .goal) (f .terms) room y (w .goal) s → s ≡ true → v ≡ bodyAt w x 6 → Proving f room after v left r → PassingAs W.Imp f room after w x nest left r
-  unfolding spec.through spec.ending
-  imp-body {after} {r = r} nest p e i k z j body ds us o c bs a d bs′ h =
-      let (g, b, n) = clause-is d h in
-      subst (Claim f room after ds us w x (suc nest) left o c bs a bs′ r) (sym n)
-      (λ l t.
-      let m = proving-at j body ds us o c bs′ g (ready-body t 6 g (first-part (octets "imp") (heads .1 .1 .1 .1) (t .framed .stands)) (omega arith) (both-of (goalOk (length bs′) g) (atomOk (length bs′) b) (t .scoped) .0)) in
-      record {
-        kept = kept-less room after (omega arith) (omega (arith, t .fresh, t .ready .enough .bindings, t .framed .shallow)) (m .kept);
-        answer = and-yes (imp-atom t p e i k) z (m .answer);
-      })
 
   -- two clauses
   pub and-lost : {q : After} (nest : ℕ) → PastAt (drop (x .at) (bytesAt f x)) 6 64 q → q ≡ A.Nothing → PassingAs W.And f room room w x nest left false
@@ -296,18 +212,6 @@ module _ {f : Files} {room : List ℕ} {w : Where} {x : Spot} {left : ℕ} where
         kept = kept-then room (set room (plus (x .base) (x .count)) v) after (omega arith) (omega (arith, t .framed .shallow)) (push-kept t v) (y .kept);
         answer = and-yes m n (y .answer);
       }
-
-  -- the head forces candidate i: it decides for all
-  pub all-forced : {after : List ℕ} {y : Spot} {r : Forced} {i : ℕ} {s : Bool} (nest : ℕ) → y ≡ further x 6 → ByHead f room y (w .goal) 0 nest r → r ≡ F.Candidate i → PassingWith f room after w x i nest left s → PassingAs W.All f room after w x nest left s
-  all-forced {after} {r = r} {i = i} {s = s} nest j k e p ds us o c bs a d bs′ h =
-      let (q, y, u) = clause-is d h in
-      subst (Claim f room after ds us w x (suc nest) left o c bs a bs′ s) (sym u)
-      (λ lo t.
-      let m = p ds us o c bs a q y bs′ lo t in
-      let place = t .ready .place in
-      let b = subst (λ (z : Spot). ByHead f room z (w .goal) 0 nest r) j k (suc (length bs′)) (length bs) y a (omega arith) (omega arith) (below-clause t) (asked-atom t) in
-      let forced = ap (λ (z : Bindings). byHead 0 z y a) (sym (place .framed .holds)) ∙ sym b ∙ e in
-      record { kept = m .kept; answer = m .answer ∙ sym (only-forced (listed us) o q left c bs a y bs′ i (no-stand-in (place .booked .candidates)) forced) })
 
   -- the candidates one after the other
   pub all-start : (nest : ℕ) → AllLeft f room w x nest left room 0

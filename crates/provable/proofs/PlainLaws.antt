@@ -124,7 +124,7 @@ head-in f room p (Clause.allD q d) fr h = absurd h
 head-in f room p (Clause.andD c d) fr h = absurd h
 
 -- the parts where the room's words are as they were, or where one variable is another
-parts-over : (f : Files) (room after : List ℕ) (p : Parts) (e : Clause Plain) (fr fr′ : Bindings) → bindingsAt after (p .head) ≡ fr′ → length fr′ ≡ length fr → PartsIn f room p e fr → PartsIn f after p e fr′
+pub parts-over : (f : Files) (room after : List ℕ) (p : Parts) (e : Clause Plain) (fr fr′ : Bindings) → bindingsAt after (p .head) ≡ fr′ → length fr′ ≡ length fr → PartsIn f room p e fr → PartsIn f after p e fr′
 parts-over f room after p e fr fr′ holds long = go e
   where
     over : {x : Spot} {e : Sexp} → bindingsAt after x ≡ fr′ → Framed f room x (p .head .base + p .head .count) e fr → Framed f after x (p .head .base + p .head .count) e fr′

@@ -9,7 +9,7 @@ use Rattle.harrop.specs.declared.Binding.{Binding}
 use Rattle.harrop.specs.declared.Binding.the-variants.{Candidate}
 use Rattle.harrop.specs.Formula.{Term, Atom, Goal, Clause}
 use Rattle.harrop.specs.Bindings.{Bindings}
-use Rattle.harrop.specs.Place.{Candidates, Hand, Plain, listed, allowed}
+use Rattle.harrop.specs.Place.{Hand, Plain, listed, allowed}
 use Rattle.packet.specs.declared.Word.{Word}
 use Rattle.packet.specs.declared.Word.the-variants as W
 use Rattle.packet.specs.Written.{goalSexp, atomSexp}
@@ -24,7 +24,7 @@ use Rattle.heads.specs.Heads.{goalWord}
 use Rattle.mentions.specs.Open.{unset, isUnset, isOpen, asked}
 use Rattle.mentions.specs.Mentions.{mentionsGoal}
 use Rattle.provable.specs.Provable as provable
-use Rattle.provable.specs.Proving.{Ready, passes}
+use Rattle.provable.specs.Proving.{Ready, Answers, passes}
 use Rattle.provable.specs.Parts.{variableWord}
 use Rattle.provable.specs.declared.plain.Parts.{Parts}
 
@@ -79,11 +79,27 @@ pub record Looks (us : List Term) (o : List Plain) (c : Hand Plain) (own : ℕ) 
   pub yes : r ≡ true → Looked us o c own bs also v h g
   pub no : r ≡ false → (ds : Bindings) → Completes us o own bs ds → provable.provable (listed us) h o c ds g ≡ false
 
+-- and what is relied on is kept
+pub record Seen (supposed top : ℕ) (room after : List ℕ) (us : List Term) (o : List Plain) (c : Hand Plain) (own : ℕ) (bs : Bindings) (also : Bool) (v h : ℕ) (g : Goal Plain) (r : Bool) : Type 0 where
+  pub kept : Kept supposed top room after
+  pub says : Looks us o c own bs also v h g r
+
+-- whether the goal of a place is looked at: a yes says that it holds no unset variable, a no that it is not
+pub record IsDue (own : ℕ) (bs : Bindings) (also : Bool) (v : ℕ) (g : Goal Plain) (r : Bool) : Type 0 where
+  pub yes : r ≡ true → mentionsGoal (asked own bs false v) g ≡ false
+  pub no : r ≡ false → Due own bs also v g → ⊥
+
+abbrev pub Dues : Files → List ℕ → Where → ℕ → Bool → ℕ → Bool → Type 0
+Dues f room w own also v r =
+    (ds : List (Clause Plain)) (us : List Term) (height : ℕ) (o : List Plain) (c : Hand Plain) (bs : Bindings) (g : Goal Plain) →
+    Ready f room ds us w height o c bs g →
+    IsDue own bs also v g r
+
 abbrev pub Looking : Files → List ℕ → List ℕ → Where → ℕ → Bool → ℕ → ℕ → Bool → Type 0
 Looking f room after w own also v height r =
     (ds : List (Clause Plain)) (us : List Term) (o : List Plain) (c : Hand Plain) (bs : Bindings) (g : Goal Plain) →
     Ready f room ds us w height o c bs g →
-    (Kept (w .supposed) (w .top) room after) × Looks us o c own bs also v height g r
+    Seen (w .supposed) (w .top) room after us o c own bs also v height g r
 
 -- the same of a goal with a word, and of one that is no `and`
 abbrev pub LookingAs : Word → Files → List ℕ → List ℕ → Where → ℕ → Bool → ℕ → ℕ → Bool → Type 0
@@ -91,14 +107,14 @@ LookingAs word f room after w own also v height r =
     (ds : List (Clause Plain)) (us : List Term) (o : List Plain) (c : Hand Plain) (bs : Bindings) (g : Goal Plain) →
     goalWord g ≡ word →
     Ready f room ds us w height o c bs g →
-    (Kept (w .supposed) (w .top) room after) × Looks us o c own bs also v height g r
+    Seen (w .supposed) (w .top) room after us o c own bs also v height g r
 
 abbrev pub LookingOne : Files → List ℕ → List ℕ → Where → ℕ → Bool → ℕ → ℕ → Bool → Type 0
 LookingOne f room after w own also v height r =
     (ds : List (Clause Plain)) (us : List Term) (o : List Plain) (c : Hand Plain) (bs : Bindings) (g : Goal Plain) →
     (goalWord g ≡ W.And → ⊥) →
     Ready f room ds us w height o c bs g →
-    (Kept (w .supposed) (w .top) room after) × Looks us o c own bs also v height g r
+    Seen (w .supposed) (w .top) room after us o c own bs also v height g r
 
 -- the parts of a clause at their spots, in one frame: its head, and its body if it has one
 pub record HeadIn (f : Files) (room : List ℕ) (p : Parts) (b : Atom) (fr : Bindings) : Type 0 where
@@ -165,13 +181,16 @@ LookedNew us left o c own also v (Clause.allD q d) fr = Unit {0}
 LookedNew us left o c own also v (Clause.andD d e) fr = Unit {0}
 
 -- the body of the clause looked at
+pub record BodySeen (w : Where) (p : Parts) (left : ℕ) (room after : List ℕ) (us : List Term) (o : List Plain) (c : Hand Plain) (bs : Bindings) (a : Atom) (also : Bool) (v : ℕ) (e : Clause Plain) (fr : Bindings) (r : Bool) : Type 0 where
+  pub kept : Kept (w .supposed) (p .head .base + p .head .count) room after
+  pub yes : r ≡ true → LookedNew us left o c (p .own) also v e fr
+  pub no : r ≡ false → Fillable us left o c bs a e (p .own) fr false
+
 abbrev pub LookingBody : Files → List ℕ → List ℕ → Where → Parts → Bool → ℕ → ℕ → Bool → Type 0
 LookingBody f room after w p also v left r =
     (ds : List (Clause Plain)) (us : List Term) (o : List Plain) (c : Hand Plain) (bs : Bindings) (a : Atom) (e : Clause Plain) (fr : Bindings) →
     Filling f room ds us w p left o c bs a e fr →
-    (Kept (w .supposed) (p .head .base + p .head .count) room after)
-    × (r ≡ true → LookedNew us left o c (p .own) also v e fr)
-    × (r ≡ false → Fillable us left o c bs a e (p .own) fr false)
+    BodySeen w p left room after us o c bs a also v e fr r
 
 -- what a search of frames leaves: what is below the clause's own variables is kept and, after a no, the frame as well
 pub record Leaves (w : Where) (p : Parts) (room after : List ℕ) (r : Bool) : Type 0 where
@@ -220,4 +239,4 @@ abbrev pub PassingParts : Files → List ℕ → List ℕ → Where → Parts �
 PassingParts f room after w p left r =
     (ds : List (Clause Plain)) (us : List Term) (o : List Plain) (c : Hand Plain) (bs : Bindings) (a : Atom) (e : Clause Plain) (bs′ : Bindings) →
     Starting f room ds us w p left o c bs a e bs′ →
-    (Kept (w .supposed) (floor p) room after) × (r ≡ passes us left o c bs a (alls (p .own) e) bs′)
+    Answers (w .supposed) (floor p) room after (passes us left o c bs a (alls (p .own) e) bs′) r

@@ -35,7 +35,7 @@ use unset::may_be;
 ghost use Rattle.packet.specs.declared.Word.the-variants as W;
 ghost use Rattle.room.specs.Where.{filesOf};
 ghost use Rattle.provable.specs.Proving.{Proving, ProvingAs, ProvingWith, ProvingBy, Passing, PassingAs, PassingWith};
-ghost use Rattle.provable.specs.Filling.{PassingParts, LookingBody, Looking, LookingAs, LookingOne, FillingFrom, FillingEach, FillingWith};
+ghost use Rattle.provable.specs.Filling.{PassingParts, LookingBody, Looking, LookingAs, LookingOne, Dues, FillingFrom, FillingEach, FillingWith};
 
 // Whether the goal of a place has a proof of at most this height.
 pub fn prove_goal<'a>(
@@ -296,7 +296,17 @@ fn look_body<'a>(
     if !p.body {
         return true;
     }
-    look(rules, goal, terms, room, body_place(w, p), p.own, also, v, left)
+    look(
+        rules,
+        goal,
+        terms,
+        room,
+        body_place(w, p),
+        p.own,
+        also,
+        v,
+        left,
+    )
 }
 
 // The goals of a body whose variables are set, and of these, if variable v is asked for, those that hold it: whether each has a proof.
@@ -339,10 +349,55 @@ fn look_both<'a>(
     let After::Next(n) = past_part(rules, goal, terms, w.goal, 6) else {
         return false;
     };
-    if !look(rules, goal, terms, room, within(w, 6), own, also, v, height - 1) {
+    if !look(
+        rules,
+        goal,
+        terms,
+        room,
+        within(w, 6),
+        own,
+        also,
+        v,
+        height - 1,
+    ) {
         return false;
     }
-    look(rules, goal, terms, room, within(w, n), own, also, v, height - 1)
+    look(
+        rules,
+        goal,
+        terms,
+        room,
+        within(w, n),
+        own,
+        also,
+        v,
+        height - 1,
+    )
+}
+
+// Whether a goal that is no `and` is looked at: it holds no unset variable and, if variable v is asked for, holds that one.
+fn is_due<'a>(
+    rules: &'a [u8],
+    goal: &'a [u8],
+    terms: &'a [u8],
+    room: &[u32],
+    w: Where,
+    own: usize,
+    also: bool,
+    v: usize,
+) -> bool
+    ensures { λ r. ⌜ Dues (filesOf (now (rules .entry)) (now (goal .entry)) (now (terms .entry))) (now (room .entry)) w own also v r ⌝ }
+{
+    let x = w.goal;
+    let source = x.source;
+    let s = part(rules, goal, terms, source, x.at);
+    if holds(s, 0, 0, 64, room, w.goal, own, false, v) {
+        return false;
+    }
+    if !also {
+        return true;
+    }
+    holds(s, 0, 0, 64, room, w.goal, own, true, v)
 }
 
 // A goal that is no `and`: nothing is asked of it while it holds an unset variable, or if it was looked at before.
@@ -359,12 +414,7 @@ fn look_one<'a>(
 ) -> bool
     ensures { λ r. ⌜ LookingOne (filesOf (now (rules .entry)) (now (goal .entry)) (now (terms .entry))) (now (room .entry)) (now (room .exit)) w own also v height r ⌝ }
 {
-    let source = w.goal.source;
-    let s = part(rules, goal, terms, source, w.goal.at);
-    if holds(s, 0, 0, 64, room, w.goal, own, false, v) {
-        return true;
-    }
-    if also && !holds(s, 0, 0, 64, room, w.goal, own, true, v) {
+    if !is_due(rules, goal, terms, room, w, own, also, v) {
         return true;
     }
     prove_goal(rules, goal, terms, room, w, height)

@@ -1,72 +1,97 @@
 -- The cycle of calls of src/provable.rt meets its contracts: the search of a goal, over the clauses at hand, through one clause, and of its body with one less. Assumes nothing.
 use native.Mathlib.Omega.{arith}
 use borrow.Author.Needs.{needs}
-use Prim.Native.Nat.{ℕ, suc, _+_, _-_, _*_, _≤_, _<_}
-use mathlib.Core.Path.{_≡_, refl, sym, ap, _∙_}
+use Prim.Native.Nat.{ℕ, _+_, _-_, _*_, _≤_, _<_}
+use mathlib.Core.Path.{_≡_, refl, ap, _∙_}
+use mathlib.Core.List.{List, [], _∷_}
 use lib.ListN.{length, set}
 use borrow.Author.Tests.{not-true, not-false}
 use Rattle.harrop.specs.declared.Binding.the-variants.{Candidate}
 use Rattle.packet.specs.declared.Kind.the-variants as K
 use Rattle.packet.specs.declared.Word.the-variants as W
 use Rattle.packet.specs.Table.{rows, rank}
-use Rattle.packet.proofs.TableLaws.{no-row}
+use Rattle.packet.proofs.TableLaws.{no-row, tag-rank}
 use Rattle.room.specs.Frame.{bindingWord, held}
 use Rattle.room.specs.Where.{filesOf}
 use Rattle.provable.proofs.ProvingLaws as laws
 use Rattle.provable.proofs.PassingLaws as passing
-use Rattle.heads.proofs.has_head.Reads as has-head-reads
-use Rattle.force.proofs.by_head.Reads as by-head-reads
+use Rattle.provable.proofs.FillLaws as filling
 use borrow.Fn.Kinds.{In}
 use borrow.Fn.PlainCycle.{Measures, is, falls, and}
+use Rattle.provable.proofs.provable.fill.Reads as fill
+use Rattle.provable.proofs.provable.fill.Kinds as fill-kinds
+use Rattle.provable.proofs.provable.+fill+fill_each+fill_with+look+look_body+look_both+look_one+prove_all+prove_atom+prove_both+prove_either+prove_goal+prove_some+prove_under+prove_with+through+through_and+through_each+through_plain+through_with+use_clause.Lts-fill as fill-lts
+use Rattle.provable.proofs.provable.fill_each.Reads as fill-each
+use Rattle.provable.proofs.provable.fill_each.Kinds as fill-each-kinds
+use Rattle.provable.proofs.provable.+fill+fill_each+fill_with+look+look_body+look_both+look_one+prove_all+prove_atom+prove_both+prove_either+prove_goal+prove_some+prove_under+prove_with+through+through_and+through_each+through_plain+through_with+use_clause.Lts-fill_each as fill-each-lts
+use Rattle.provable.proofs.provable.fill_with.Reads as fill-with
+use Rattle.provable.proofs.provable.fill_with.Kinds as fill-with-kinds
+use Rattle.provable.proofs.provable.+fill+fill_each+fill_with+look+look_body+look_both+look_one+prove_all+prove_atom+prove_both+prove_either+prove_goal+prove_some+prove_under+prove_with+through+through_and+through_each+through_plain+through_with+use_clause.Lts-fill_with as fill-with-lts
+use Rattle.provable.proofs.provable.look.Reads as look
+use Rattle.provable.proofs.provable.look.Kinds as look-kinds
+use Rattle.provable.proofs.provable.+fill+fill_each+fill_with+look+look_body+look_both+look_one+prove_all+prove_atom+prove_both+prove_either+prove_goal+prove_some+prove_under+prove_with+through+through_and+through_each+through_plain+through_with+use_clause.Lts-look as look-lts
+use Rattle.provable.proofs.provable.look_body.Reads as look-body
+use Rattle.provable.proofs.provable.look_body.Kinds as look-body-kinds
+use Rattle.provable.proofs.provable.+fill+fill_each+fill_with+look+look_body+look_both+look_one+prove_all+prove_atom+prove_both+prove_either+prove_goal+prove_some+prove_under+prove_with+through+through_and+through_each+through_plain+through_with+use_clause.Lts-look_body as look-body-lts
+use Rattle.provable.proofs.provable.look_both.Reads as look-both
+use Rattle.provable.proofs.provable.look_both.Kinds as look-both-kinds
+use Rattle.provable.proofs.provable.+fill+fill_each+fill_with+look+look_body+look_both+look_one+prove_all+prove_atom+prove_both+prove_either+prove_goal+prove_some+prove_under+prove_with+through+through_and+through_each+through_plain+through_with+use_clause.Lts-look_both as look-both-lts
+use Rattle.provable.proofs.provable.look_one.Reads as look-one
+use Rattle.provable.proofs.provable.look_one.Kinds as look-one-kinds
+use Rattle.provable.proofs.provable.+fill+fill_each+fill_with+look+look_body+look_both+look_one+prove_all+prove_atom+prove_both+prove_either+prove_goal+prove_some+prove_under+prove_with+through+through_and+through_each+through_plain+through_with+use_clause.Lts-look_one as look-one-lts
 use Rattle.provable.proofs.provable.prove_all.Reads as prove-all
 use Rattle.provable.proofs.provable.prove_all.Kinds as prove-all-kinds
-use Rattle.provable.proofs.provable.+prove_all+prove_atom+prove_both+prove_either+prove_goal+prove_some+prove_under+prove_with+through+through_all+through_and+through_each+through_imp+through_with+use_clause.Lts-prove_all as prove-all-lts
+use Rattle.provable.proofs.provable.+fill+fill_each+fill_with+look+look_body+look_both+look_one+prove_all+prove_atom+prove_both+prove_either+prove_goal+prove_some+prove_under+prove_with+through+through_and+through_each+through_plain+through_with+use_clause.Lts-prove_all as prove-all-lts
 use Rattle.provable.proofs.provable.prove_atom.Reads as prove-atom
 use Rattle.provable.proofs.provable.prove_atom.Kinds as prove-atom-kinds
-use Rattle.provable.proofs.provable.+prove_all+prove_atom+prove_both+prove_either+prove_goal+prove_some+prove_under+prove_with+through+through_all+through_and+through_each+through_imp+through_with+use_clause.Lts-prove_atom as prove-atom-lts
+use Rattle.provable.proofs.provable.+fill+fill_each+fill_with+look+look_body+look_both+look_one+prove_all+prove_atom+prove_both+prove_either+prove_goal+prove_some+prove_under+prove_with+through+through_and+through_each+through_plain+through_with+use_clause.Lts-prove_atom as prove-atom-lts
 use Rattle.provable.proofs.provable.prove_both.Reads as prove-both
 use Rattle.provable.proofs.provable.prove_both.Kinds as prove-both-kinds
-use Rattle.provable.proofs.provable.+prove_all+prove_atom+prove_both+prove_either+prove_goal+prove_some+prove_under+prove_with+through+through_all+through_and+through_each+through_imp+through_with+use_clause.Lts-prove_both as prove-both-lts
+use Rattle.provable.proofs.provable.+fill+fill_each+fill_with+look+look_body+look_both+look_one+prove_all+prove_atom+prove_both+prove_either+prove_goal+prove_some+prove_under+prove_with+through+through_and+through_each+through_plain+through_with+use_clause.Lts-prove_both as prove-both-lts
 use Rattle.provable.proofs.provable.prove_either.Reads as prove-either
 use Rattle.provable.proofs.provable.prove_either.Kinds as prove-either-kinds
-use Rattle.provable.proofs.provable.+prove_all+prove_atom+prove_both+prove_either+prove_goal+prove_some+prove_under+prove_with+through+through_all+through_and+through_each+through_imp+through_with+use_clause.Lts-prove_either as prove-either-lts
+use Rattle.provable.proofs.provable.+fill+fill_each+fill_with+look+look_body+look_both+look_one+prove_all+prove_atom+prove_both+prove_either+prove_goal+prove_some+prove_under+prove_with+through+through_and+through_each+through_plain+through_with+use_clause.Lts-prove_either as prove-either-lts
 use Rattle.provable.proofs.provable.prove_goal.Reads as prove-goal
 use Rattle.provable.proofs.provable.prove_goal.Kinds as prove-goal-kinds
-use Rattle.provable.proofs.provable.+prove_all+prove_atom+prove_both+prove_either+prove_goal+prove_some+prove_under+prove_with+through+through_all+through_and+through_each+through_imp+through_with+use_clause.Lts-prove_goal as prove-goal-lts
+use Rattle.provable.proofs.provable.+fill+fill_each+fill_with+look+look_body+look_both+look_one+prove_all+prove_atom+prove_both+prove_either+prove_goal+prove_some+prove_under+prove_with+through+through_and+through_each+through_plain+through_with+use_clause.Lts-prove_goal as prove-goal-lts
 use Rattle.provable.proofs.provable.prove_some.Reads as prove-some
 use Rattle.provable.proofs.provable.prove_some.Kinds as prove-some-kinds
-use Rattle.provable.proofs.provable.+prove_all+prove_atom+prove_both+prove_either+prove_goal+prove_some+prove_under+prove_with+through+through_all+through_and+through_each+through_imp+through_with+use_clause.Lts-prove_some as prove-some-lts
+use Rattle.provable.proofs.provable.+fill+fill_each+fill_with+look+look_body+look_both+look_one+prove_all+prove_atom+prove_both+prove_either+prove_goal+prove_some+prove_under+prove_with+through+through_and+through_each+through_plain+through_with+use_clause.Lts-prove_some as prove-some-lts
 use Rattle.provable.proofs.provable.prove_under.Reads as prove-under
 use Rattle.provable.proofs.provable.prove_under.Kinds as prove-under-kinds
-use Rattle.provable.proofs.provable.+prove_all+prove_atom+prove_both+prove_either+prove_goal+prove_some+prove_under+prove_with+through+through_all+through_and+through_each+through_imp+through_with+use_clause.Lts-prove_under as prove-under-lts
+use Rattle.provable.proofs.provable.+fill+fill_each+fill_with+look+look_body+look_both+look_one+prove_all+prove_atom+prove_both+prove_either+prove_goal+prove_some+prove_under+prove_with+through+through_and+through_each+through_plain+through_with+use_clause.Lts-prove_under as prove-under-lts
 use Rattle.provable.proofs.provable.prove_with.Reads as prove-with
 use Rattle.provable.proofs.provable.prove_with.Kinds as prove-with-kinds
-use Rattle.provable.proofs.provable.+prove_all+prove_atom+prove_both+prove_either+prove_goal+prove_some+prove_under+prove_with+through+through_all+through_and+through_each+through_imp+through_with+use_clause.Lts-prove_with as prove-with-lts
+use Rattle.provable.proofs.provable.+fill+fill_each+fill_with+look+look_body+look_both+look_one+prove_all+prove_atom+prove_both+prove_either+prove_goal+prove_some+prove_under+prove_with+through+through_and+through_each+through_plain+through_with+use_clause.Lts-prove_with as prove-with-lts
 use Rattle.provable.proofs.provable.through.Reads as through
 use Rattle.provable.proofs.provable.through.Kinds as through-kinds
-use Rattle.provable.proofs.provable.+prove_all+prove_atom+prove_both+prove_either+prove_goal+prove_some+prove_under+prove_with+through+through_all+through_and+through_each+through_imp+through_with+use_clause.Lts-through as through-lts
-use Rattle.provable.proofs.provable.through_all.Reads as through-all
-use Rattle.provable.proofs.provable.through_all.Kinds as through-all-kinds
-use Rattle.provable.proofs.provable.+prove_all+prove_atom+prove_both+prove_either+prove_goal+prove_some+prove_under+prove_with+through+through_all+through_and+through_each+through_imp+through_with+use_clause.Lts-through_all as through-all-lts
+use Rattle.provable.proofs.provable.+fill+fill_each+fill_with+look+look_body+look_both+look_one+prove_all+prove_atom+prove_both+prove_either+prove_goal+prove_some+prove_under+prove_with+through+through_and+through_each+through_plain+through_with+use_clause.Lts-through as through-lts
 use Rattle.provable.proofs.provable.through_and.Reads as through-and
 use Rattle.provable.proofs.provable.through_and.Kinds as through-and-kinds
-use Rattle.provable.proofs.provable.+prove_all+prove_atom+prove_both+prove_either+prove_goal+prove_some+prove_under+prove_with+through+through_all+through_and+through_each+through_imp+through_with+use_clause.Lts-through_and as through-and-lts
+use Rattle.provable.proofs.provable.+fill+fill_each+fill_with+look+look_body+look_both+look_one+prove_all+prove_atom+prove_both+prove_either+prove_goal+prove_some+prove_under+prove_with+through+through_and+through_each+through_plain+through_with+use_clause.Lts-through_and as through-and-lts
 use Rattle.provable.proofs.provable.through_each.Reads as through-each
 use Rattle.provable.proofs.provable.through_each.Kinds as through-each-kinds
-use Rattle.provable.proofs.provable.+prove_all+prove_atom+prove_both+prove_either+prove_goal+prove_some+prove_under+prove_with+through+through_all+through_and+through_each+through_imp+through_with+use_clause.Lts-through_each as through-each-lts
-use Rattle.provable.proofs.provable.through_imp.Reads as through-imp
-use Rattle.provable.proofs.provable.through_imp.Kinds as through-imp-kinds
-use Rattle.provable.proofs.provable.+prove_all+prove_atom+prove_both+prove_either+prove_goal+prove_some+prove_under+prove_with+through+through_all+through_and+through_each+through_imp+through_with+use_clause.Lts-through_imp as through-imp-lts
+use Rattle.provable.proofs.provable.+fill+fill_each+fill_with+look+look_body+look_both+look_one+prove_all+prove_atom+prove_both+prove_either+prove_goal+prove_some+prove_under+prove_with+through+through_and+through_each+through_plain+through_with+use_clause.Lts-through_each as through-each-lts
+use Rattle.provable.proofs.provable.through_plain.Reads as through-plain
+use Rattle.provable.proofs.provable.through_plain.Kinds as through-plain-kinds
+use Rattle.provable.proofs.provable.+fill+fill_each+fill_with+look+look_body+look_both+look_one+prove_all+prove_atom+prove_both+prove_either+prove_goal+prove_some+prove_under+prove_with+through+through_and+through_each+through_plain+through_with+use_clause.Lts-through_plain as through-plain-lts
 use Rattle.provable.proofs.provable.through_with.Reads as through-with
 use Rattle.provable.proofs.provable.through_with.Kinds as through-with-kinds
-use Rattle.provable.proofs.provable.+prove_all+prove_atom+prove_both+prove_either+prove_goal+prove_some+prove_under+prove_with+through+through_all+through_and+through_each+through_imp+through_with+use_clause.Lts-through_with as through-with-lts
+use Rattle.provable.proofs.provable.+fill+fill_each+fill_with+look+look_body+look_both+look_one+prove_all+prove_atom+prove_both+prove_either+prove_goal+prove_some+prove_under+prove_with+through+through_and+through_each+through_plain+through_with+use_clause.Lts-through_with as through-with-lts
 use Rattle.provable.proofs.provable.use_clause.Reads as use-clause
 use Rattle.provable.proofs.provable.use_clause.Kinds as use-clause-kinds
-use Rattle.provable.proofs.provable.+prove_all+prove_atom+prove_both+prove_either+prove_goal+prove_some+prove_under+prove_with+through+through_all+through_and+through_each+through_imp+through_with+use_clause.Lts-use_clause as use-clause-lts
+use Rattle.provable.proofs.provable.+fill+fill_each+fill_with+look+look_body+look_both+look_one+prove_all+prove_atom+prove_both+prove_either+prove_goal+prove_some+prove_under+prove_with+through+through_and+through_each+through_plain+through_with+use_clause.Lts-use_clause as use-clause-lts
+use Rattle.heads.proofs.has_head.Reads as has-head-reads
 use Rattle.provable.proofs.hand.candidates.Reads as candidates-reads
 use Rattle.provable.proofs.hand.clauses.Reads as clauses-reads
 use Rattle.provable.proofs.hand.deeper.Reads as deeper-reads
 use Rattle.provable.proofs.hand.open_clause.Reads as open-clause-reads
+use Rattle.provable.proofs.plain.body_place.Reads as body-place-reads
+use Rattle.provable.proofs.plain.parts_of.Reads as parts-of-reads
+use Rattle.provable.proofs.plain.settle.Reads as settle-reads
+use Rattle.provable.proofs.plain.unset_all.Reads as unset-all-reads
+use Rattle.provable.proofs.plain.word_of.Reads as word-of-reads
+use Rattle.provable.proofs.provable.is_due.Reads as is-due-reads
 use Rattle.room.proofs.same_atoms.Reads as same-atoms-reads
 use Rattle.room.proofs.suppose.Reads as suppose-reads
 use Rattle.room.proofs.push.Reads as push-reads
@@ -78,57 +103,124 @@ use Rattle.room.proofs.supposes.Reads as supposes-reads
 use Rattle.room.proofs.within.Reads as within-reads
 use Rattle.room.proofs.word_there.Reads as word-there-reads
 use Rattle.room.proofs.may_use.Reads as may-use-reads
-use Rattle.provable.proofs.provable.+prove_all+prove_atom+prove_both+prove_either+prove_goal+prove_some+prove_under+prove_with+through+through_all+through_and+through_each+through_imp+through_with+use_clause.{
+use Rattle.unset.proofs.may_be.Reads as may-be-reads
+use Rattle.unset.proofs.is_open.Reads as is-open-reads
+use Rattle.provable.proofs.provable.+fill+fill_each+fill_with+look+look_body+look_both+look_one+prove_all+prove_atom+prove_both+prove_either+prove_goal+prove_some+prove_under+prove_with+through+through_and+through_each+through_plain+through_with+use_clause.{
   statement,
 }
-use Rattle.provable.proofs.provable.+prove_all+prove_atom+prove_both+prove_either+prove_goal+prove_some+prove_under+prove_with+through+through_all+through_and+through_each+through_imp+through_with+use_clause.Tie.{
+use Rattle.provable.proofs.provable.+fill+fill_each+fill_with+look+look_body+look_both+look_one+prove_all+prove_atom+prove_both+prove_either+prove_goal+prove_some+prove_under+prove_with+through+through_and+through_each+through_plain+through_with+use_clause.Tie.{
   close,
 }
 
+abbrev μ-fill : Measures 2 fill-kinds.ps ℕ
+μ-fill κs a = 100000 * a .1 .1 .1 .1 .1 .1 .1 .0 + 1000 + 10 * a .1 .1 .1 .1 .1 .1 .0 + 3
+
+abbrev μ-fill-each : Measures 2 fill-each-kinds.ps ℕ
+μ-fill-each κs a = 100000 * a .1 .1 .1 .1 .1 .1 .1 .0 + 1000 + 10 * a .1 .1 .1 .1 .1 .1 .0 + 8
+
+abbrev μ-fill-with : Measures 2 fill-with-kinds.ps ℕ
+μ-fill-with κs a = 100000 * a .1 .1 .1 .1 .1 .1 .1 .1 .0 + 1000 + 10 * a .1 .1 .1 .1 .1 .1 .0 + 6
+
+abbrev μ-look : Measures 2 look-kinds.ps ℕ
+μ-look κs a = 100000 * a .1 .1 .1 .1 .1 .1 .1 .1 .0 + 800
+
+abbrev μ-look-body : Measures 2 look-body-kinds.ps ℕ
+μ-look-body κs a = 100000 * a .1 .1 .1 .1 .1 .1 .1 .1 .0 + 900
+
+abbrev μ-look-both : Measures 2 look-both-kinds.ps ℕ
+μ-look-both κs a = 100000 * a .1 .1 .1 .1 .1 .1 .1 .1 .0 + 700
+
+abbrev μ-look-one : Measures 2 look-one-kinds.ps ℕ
+μ-look-one κs a = 100000 * a .1 .1 .1 .1 .1 .1 .1 .1 .0 + 600
+
 abbrev μ-prove-all : Measures 2 prove-all-kinds.ps ℕ
-μ-prove-all κs a = 1000 * a .1 .1 .1 .1 .1 .0 + 1998
+μ-prove-all κs a = 100000 * a .1 .1 .1 .1 .1 .0 + 90000
 
 abbrev μ-prove-atom : Measures 2 prove-atom-kinds.ps ℕ
-μ-prove-atom κs a = 1000 * a .1 .1 .1 .1 .1 .0 + 1998
+μ-prove-atom κs a = 100000 * a .1 .1 .1 .1 .1 .0 + 90000
 
 abbrev μ-prove-both : Measures 2 prove-both-kinds.ps ℕ
-μ-prove-both κs a = 1000 * a .1 .1 .1 .1 .1 .0 + 1998
+μ-prove-both κs a = 100000 * a .1 .1 .1 .1 .1 .0 + 90000
 
 abbrev μ-prove-either : Measures 2 prove-either-kinds.ps ℕ
-μ-prove-either κs a = 1000 * a .1 .1 .1 .1 .1 .0 + 1998
+μ-prove-either κs a = 100000 * a .1 .1 .1 .1 .1 .0 + 90000
 
 abbrev μ-prove-goal : Measures 2 prove-goal-kinds.ps ℕ
-μ-prove-goal κs a = 1000 * a .1 .1 .1 .1 .1 .0 + 999
+μ-prove-goal κs a = 100000 * a .1 .1 .1 .1 .1 .0 + 400
 
 abbrev μ-prove-some : Measures 2 prove-some-kinds.ps ℕ
-μ-prove-some κs a = 1000 * a .1 .1 .1 .1 .1 .0 + 1998
+μ-prove-some κs a = 100000 * a .1 .1 .1 .1 .1 .0 + 90000
 
 abbrev μ-prove-under : Measures 2 prove-under-kinds.ps ℕ
-μ-prove-under κs a = 1000 * a .1 .1 .1 .1 .1 .0 + 1998
+μ-prove-under κs a = 100000 * a .1 .1 .1 .1 .1 .0 + 90000
 
 abbrev μ-prove-with : Measures 2 prove-with-kinds.ps ℕ
-μ-prove-with κs a = 1000 * a .1 .1 .1 .1 .1 .1 .0 + 1997
+μ-prove-with κs a = 100000 * a .1 .1 .1 .1 .1 .1 .0 + 80000
 
 abbrev μ-through : Measures 2 through-kinds.ps ℕ
-μ-through κs a = 1000 * a .1 .1 .1 .1 .1 .1 .1 .0 + 1000 + 4 * a .1 .1 .1 .1 .1 .1 .0 + 2
-
-abbrev μ-through-all : Measures 2 through-all-kinds.ps ℕ
-μ-through-all κs a = 1000 * a .1 .1 .1 .1 .1 .1 .1 .0 + 1000 + 4 * a .1 .1 .1 .1 .1 .1 .0 + 5
+μ-through κs a = 100000 * a .1 .1 .1 .1 .1 .1 .1 .0 + 10000 + 4 * a .1 .1 .1 .1 .1 .1 .0 + 2
 
 abbrev μ-through-and : Measures 2 through-and-kinds.ps ℕ
-μ-through-and κs a = 1000 * a .1 .1 .1 .1 .1 .1 .1 .0 + 1000 + 4 * a .1 .1 .1 .1 .1 .1 .0 + 5
+μ-through-and κs a = 100000 * a .1 .1 .1 .1 .1 .1 .1 .0 + 10000 + 4 * a .1 .1 .1 .1 .1 .1 .0 + 5
 
 abbrev μ-through-each : Measures 2 through-each-kinds.ps ℕ
-μ-through-each κs a = 1000 * a .1 .1 .1 .1 .1 .1 .1 .0 + 1000 + 4 * a .1 .1 .1 .1 .1 .1 .0 + 4
+μ-through-each κs a = 100000 * a .1 .1 .1 .1 .1 .1 .1 .0 + 10000 + 4 * a .1 .1 .1 .1 .1 .1 .0 + 4
 
-abbrev μ-through-imp : Measures 2 through-imp-kinds.ps ℕ
-μ-through-imp κs a = 1000 * a .1 .1 .1 .1 .1 .1 .0 + 1000
+abbrev μ-through-plain : Measures 2 through-plain-kinds.ps ℕ
+μ-through-plain κs a = 100000 * a .1 .1 .1 .1 .1 .1 .0 + 1000 + 10 * a .1 .1 .1 .1 .1 .0 .own + 5
 
 abbrev μ-through-with : Measures 2 through-with-kinds.ps ℕ
-μ-through-with κs a = 1000 * a .1 .1 .1 .1 .1 .1 .1 .1 .0 + 1000 + 4 * a .1 .1 .1 .1 .1 .1 .1 .0 + 3
+μ-through-with κs a = 100000 * a .1 .1 .1 .1 .1 .1 .1 .1 .0 + 10000 + 4 * a .1 .1 .1 .1 .1 .1 .1 .0 + 3
 
 abbrev μ-use-clause : Measures 2 use-clause-kinds.ps ℕ
-μ-use-clause κs a = 1000 * a .1 .1 .1 .1 .1 .1 .0 + 1997
+μ-use-clause κs a = 100000 * a .1 .1 .1 .1 .1 .1 .0 + 80000
+
+abbrev fill-at : ℕ → In 2 fill-kinds.ps
+fill-at t = and 2 fill-kinds.ps (is 2 fill-kinds.ps μ-fill t) fill.Pre
+
+abbrev fill-below : ℕ → In 2 fill-kinds.ps
+fill-below t = and 2 fill-kinds.ps (falls 2 fill-kinds.ps _<_ μ-fill t) fill.Pre
+
+abbrev fill-each-at : ℕ → In 2 fill-each-kinds.ps
+fill-each-at t = and 2 fill-each-kinds.ps (is 2 fill-each-kinds.ps μ-fill-each t) fill-each.Pre
+
+abbrev fill-each-below : ℕ → In 2 fill-each-kinds.ps
+fill-each-below t =
+    and 2 fill-each-kinds.ps (falls 2 fill-each-kinds.ps _<_ μ-fill-each t) fill-each.Pre
+
+abbrev fill-with-at : ℕ → In 2 fill-with-kinds.ps
+fill-with-at t = and 2 fill-with-kinds.ps (is 2 fill-with-kinds.ps μ-fill-with t) fill-with.Pre
+
+abbrev fill-with-below : ℕ → In 2 fill-with-kinds.ps
+fill-with-below t =
+    and 2 fill-with-kinds.ps (falls 2 fill-with-kinds.ps _<_ μ-fill-with t) fill-with.Pre
+
+abbrev look-at : ℕ → In 2 look-kinds.ps
+look-at t = and 2 look-kinds.ps (is 2 look-kinds.ps μ-look t) look.Pre
+
+abbrev look-below : ℕ → In 2 look-kinds.ps
+look-below t = and 2 look-kinds.ps (falls 2 look-kinds.ps _<_ μ-look t) look.Pre
+
+abbrev look-body-at : ℕ → In 2 look-body-kinds.ps
+look-body-at t = and 2 look-body-kinds.ps (is 2 look-body-kinds.ps μ-look-body t) look-body.Pre
+
+abbrev look-body-below : ℕ → In 2 look-body-kinds.ps
+look-body-below t =
+    and 2 look-body-kinds.ps (falls 2 look-body-kinds.ps _<_ μ-look-body t) look-body.Pre
+
+abbrev look-both-at : ℕ → In 2 look-both-kinds.ps
+look-both-at t = and 2 look-both-kinds.ps (is 2 look-both-kinds.ps μ-look-both t) look-both.Pre
+
+abbrev look-both-below : ℕ → In 2 look-both-kinds.ps
+look-both-below t =
+    and 2 look-both-kinds.ps (falls 2 look-both-kinds.ps _<_ μ-look-both t) look-both.Pre
+
+abbrev look-one-at : ℕ → In 2 look-one-kinds.ps
+look-one-at t = and 2 look-one-kinds.ps (is 2 look-one-kinds.ps μ-look-one t) look-one.Pre
+
+abbrev look-one-below : ℕ → In 2 look-one-kinds.ps
+look-one-below t =
+    and 2 look-one-kinds.ps (falls 2 look-one-kinds.ps _<_ μ-look-one t) look-one.Pre
 
 abbrev prove-all-at : ℕ → In 2 prove-all-kinds.ps
 prove-all-at t = and 2 prove-all-kinds.ps (is 2 prove-all-kinds.ps μ-prove-all t) prove-all.Pre
@@ -203,14 +295,6 @@ through-at t = and 2 through-kinds.ps (is 2 through-kinds.ps μ-through t) throu
 abbrev through-below : ℕ → In 2 through-kinds.ps
 through-below t = and 2 through-kinds.ps (falls 2 through-kinds.ps _<_ μ-through t) through.Pre
 
-abbrev through-all-at : ℕ → In 2 through-all-kinds.ps
-through-all-at t =
-    and 2 through-all-kinds.ps (is 2 through-all-kinds.ps μ-through-all t) through-all.Pre
-
-abbrev through-all-below : ℕ → In 2 through-all-kinds.ps
-through-all-below t =
-    and 2 through-all-kinds.ps (falls 2 through-all-kinds.ps _<_ μ-through-all t) through-all.Pre
-
 abbrev through-and-at : ℕ → In 2 through-and-kinds.ps
 through-and-at t =
     and 2 through-and-kinds.ps (is 2 through-and-kinds.ps μ-through-and t) through-and.Pre
@@ -227,13 +311,17 @@ abbrev through-each-below : ℕ → In 2 through-each-kinds.ps
 through-each-below t =
     and 2 through-each-kinds.ps (falls 2 through-each-kinds.ps _<_ μ-through-each t) through-each.Pre
 
-abbrev through-imp-at : ℕ → In 2 through-imp-kinds.ps
-through-imp-at t =
-    and 2 through-imp-kinds.ps (is 2 through-imp-kinds.ps μ-through-imp t) through-imp.Pre
+abbrev through-plain-at : ℕ → In 2 through-plain-kinds.ps
+through-plain-at t =
+    and 2 through-plain-kinds.ps (is 2 through-plain-kinds.ps μ-through-plain t) through-plain.Pre
 
-abbrev through-imp-below : ℕ → In 2 through-imp-kinds.ps
-through-imp-below t =
-    and 2 through-imp-kinds.ps (falls 2 through-imp-kinds.ps _<_ μ-through-imp t) through-imp.Pre
+abbrev through-plain-below : ℕ → In 2 through-plain-kinds.ps
+through-plain-below t =
+    and
+    2
+    through-plain-kinds.ps
+    (falls 2 through-plain-kinds.ps _<_ μ-through-plain t)
+    through-plain.Pre
 
 abbrev through-with-at : ℕ → In 2 through-with-kinds.ps
 through-with-at t =
@@ -255,35 +343,344 @@ abbrev use-clause-below : ℕ → In 2 use-clause-kinds.ps
 use-clause-below t =
     and 2 use-clause-kinds.ps (falls 2 use-clause-kinds.ps _<_ μ-use-clause t) use-clause.Pre
 
--- src/provable.rt:151:9
+-- src/provable.rt:407:9
+fill-same-atoms-requires : (t : ℕ) → fill-lts.Need-same-atoms-requires (same-atoms-reads.Asked, same-atoms-reads.Learnt, is-open-reads.Asked, is-open-reads.Learnt, fill-each-below t, fill-each.Post, fill-below t, fill.Post) (fill-at t) fill.Post
+fill-same-atoms-requires t c κs = search needs
+
+-- src/provable.rt:407:9
+fill-same-length : (t : ℕ) → fill-lts.Need-same-length (same-atoms-reads.Asked, same-atoms-reads.Learnt, is-open-reads.Asked, is-open-reads.Learnt, fill-each-below t, fill-each.Post, fill-below t, fill.Post) (fill-at t) fill.Post
+fill-same-length t c = search needs
+
+-- src/provable.rt:407:9
+fill-returns : (t : ℕ) → fill-lts.Need-returns (same-atoms-reads.Asked, same-atoms-reads.Learnt, is-open-reads.Asked, is-open-reads.Learnt, fill-each-below t, fill-each.Post, fill-below t, fill.Post) (fill-at t) fill.Post
+fill-returns t c = filling.fill-end (c .before .before .before .before .before .before .before .args .k) (c .before .before .if1 .taken) (c .same-atoms .ensures)
+
+-- src/provable.rt:409:37
+fill-sub-is-open : (t : ℕ) → fill-lts.Need-sub-is-open (same-atoms-reads.Asked, same-atoms-reads.Learnt, is-open-reads.Asked, is-open-reads.Learnt, fill-each-below t, fill-each.Post, fill-below t, fill.Post) (fill-at t) fill.Post
+fill-sub-is-open t c = search needs
+
+-- src/provable.rt:409:8
+fill-is-open-requires : (t : ℕ) → fill-lts.Need-is-open-requires (same-atoms-reads.Asked, same-atoms-reads.Learnt, is-open-reads.Asked, is-open-reads.Learnt, fill-each-below t, fill-each.Post, fill-below t, fill.Post) (fill-at t) fill.Post
+fill-is-open-requires t c κs = search needs
+
+-- src/provable.rt:410:58
+fill-sub-fill-each : (t : ℕ) → fill-lts.Need-sub-fill-each (same-atoms-reads.Asked, same-atoms-reads.Learnt, is-open-reads.Asked, is-open-reads.Learnt, fill-each-below t, fill-each.Post, fill-below t, fill.Post) (fill-at t) fill.Post
+fill-sub-fill-each t c = search needs
+
+-- src/provable.rt:410:9
+fill-fill-each-requires : (t : ℕ) → fill-lts.Need-fill-each-requires (same-atoms-reads.Asked, same-atoms-reads.Learnt, is-open-reads.Asked, is-open-reads.Learnt, fill-each-below t, fill-each.Post, fill-below t, fill.Post) (fill-at t) fill.Post
+fill-fill-each-requires t c κs = (omega (arith, c .before .before .before .before .before .before .before .before .before .pre .0, c .before .before .before .before .if1 .left), tt)
+
+-- src/provable.rt:410:9
+fill-same-length-2 : (t : ℕ) → fill-lts.Need-same-length-2 (same-atoms-reads.Asked, same-atoms-reads.Learnt, is-open-reads.Asked, is-open-reads.Learnt, fill-each-below t, fill-each.Post, fill-below t, fill.Post) (fill-at t) fill.Post
+fill-same-length-2 t c = c .before .before .fill-each .kept .1 .1 .1 .0
+
+-- src/provable.rt:410:9
+fill-returns-2 : (t : ℕ) → fill-lts.Need-returns-2 (same-atoms-reads.Asked, same-atoms-reads.Learnt, is-open-reads.Asked, is-open-reads.Learnt, fill-each-below t, fill-each.Post, fill-below t, fill.Post) (fill-at t) fill.Post
+fill-returns-2 t c = filling.fill-here (c .before .before .before .before .before .before .before .before .before .before .before .before .args .k) (c .before .before .before .before .before .before .before .if1 .left) (c .before .before .before .before .before .is-open .ensures) (c .before .before .before .before .if2 .taken) (c .before .before .fill-each .ensures)
+
+-- src/provable.rt:412:42
+fill-sub-fill : (t : ℕ) → fill-lts.Need-sub-fill (same-atoms-reads.Asked, same-atoms-reads.Learnt, is-open-reads.Asked, is-open-reads.Learnt, fill-each-below t, fill-each.Post, fill-below t, fill.Post) (fill-at t) fill.Post
+fill-sub-fill t c = search needs
+
+-- src/provable.rt:412:5
+fill-fill-requires : (t : ℕ) → fill-lts.Need-fill-requires (same-atoms-reads.Asked, same-atoms-reads.Learnt, is-open-reads.Asked, is-open-reads.Learnt, fill-each-below t, fill-each.Post, fill-below t, fill.Post) (fill-at t) fill.Post
+fill-fill-requires t c κs = (omega (arith, c .before .before .before .before .before .before .before .before .before .pre .0, c .before .before .before .before .if1 .left), tt)
+
+-- src/provable.rt:394:1
+fill-same-length-3 : (t : ℕ) → fill-lts.Need-same-length-3 (same-atoms-reads.Asked, same-atoms-reads.Learnt, is-open-reads.Asked, is-open-reads.Learnt, fill-each-below t, fill-each.Post, fill-below t, fill.Post) (fill-at t) fill.Post
+fill-same-length-3 t c = c .before .before .fill .kept .1 .1 .1 .0
+
+-- src/provable.rt:394:1
+fill-returns-3 : (t : ℕ) → fill-lts.Need-returns-3 (same-atoms-reads.Asked, same-atoms-reads.Learnt, is-open-reads.Asked, is-open-reads.Learnt, fill-each-below t, fill-each.Post, fill-below t, fill.Post) (fill-at t) fill.Post
+fill-returns-3 t c = filling.fill-set (c .before .before .before .before .before .before .before .before .before .before .before .before .args .k) (c .before .before .before .before .before .before .before .if1 .left) (c .before .before .before .before .before .is-open .ensures) (c .before .before .before .before .if2 .left) (c .before .before .fill .ensures)
+
+abbrev fill-each-Inv-loop : fill-each-lts.InvT-loop
+fill-each-Inv-loop rules goal terms room₀ w p v left n i₀ room i =
+    (i ≤ n) × ((length room ≡ length room₀) × filling.EachLeft (filesOf rules goal terms) room₀ w p v left room i)
+
+abbrev fill-each-μ-loop : fill-each-lts.MeasureT-loop
+fill-each-μ-loop rules goal terms room₀ w p v left n i₀ room i = n - i
+
+-- src/provable.rt:428:9
+fill-each-candidates-requires : (t : ℕ) → fill-each-lts.Need-candidates-requires (candidates-reads.Asked, candidates-reads.Learnt, fill-with-below t, fill-with.Post, word-of-reads.Asked, word-of-reads.Learnt, push-reads.Asked, push-reads.Learnt) (fill-each-at t) fill-each.Post fill-each-Inv-loop fill-each-μ-loop
+fill-each-candidates-requires t c κs = search needs
+
+-- src/provable.rt:430:5
+fill-each-loop-holds : (t : ℕ) → fill-each-lts.Need-loop-holds (candidates-reads.Asked, candidates-reads.Learnt, fill-with-below t, fill-with.Post, word-of-reads.Asked, word-of-reads.Learnt, push-reads.Asked, push-reads.Learnt) (fill-each-at t) fill-each.Post fill-each-Inv-loop fill-each-μ-loop
+fill-each-loop-holds t c = (omega arith, (refl, filling.each-start (c .before .before .before .before .before .before .args .v)))
+
+-- src/provable.rt:431:12
+fill-each-fill-with-requires : (t : ℕ) → fill-each-lts.Need-fill-with-requires (candidates-reads.Asked, candidates-reads.Learnt, fill-with-below t, fill-with.Post, word-of-reads.Asked, word-of-reads.Learnt, push-reads.Asked, push-reads.Learnt) (fill-each-at t) fill-each.Post fill-each-Inv-loop fill-each-μ-loop
+fill-each-fill-with-requires t c κs = (omega (arith, c .before .before .before .before .before .before .before .before .before .pre .0), tt)
+
+-- src/provable.rt:432:13
+fill-each-same-length : (t : ℕ) → fill-each-lts.Need-same-length (candidates-reads.Asked, candidates-reads.Learnt, fill-with-below t, fill-with.Post, word-of-reads.Asked, word-of-reads.Learnt, push-reads.Asked, push-reads.Learnt) (fill-each-at t) fill-each.Post fill-each-Inv-loop fill-each-μ-loop
+fill-each-same-length t c = c .before .before .before .fill-with .kept .1 .1 .1 .0 ∙ c .before .before .before .before .before .before .loop .inv .1 .0
+
+-- src/provable.rt:432:13
+fill-each-returns : (t : ℕ) → fill-each-lts.Need-returns (candidates-reads.Asked, candidates-reads.Learnt, fill-with-below t, fill-with.Post, word-of-reads.Asked, word-of-reads.Learnt, push-reads.Asked, push-reads.Learnt) (fill-each-at t) fill-each.Post fill-each-Inv-loop fill-each-μ-loop
+fill-each-returns t c = let l = c .before .before .before .before .before .before .loop in
+    filling.each-hit (c .before .before .before .before .before .before .before .before .before .before .before .before .before .args .v) (l .i) (c .before .before .before .before .before .before .before .candidates .result) (c .before .before .before .before .before .loop-test .taken) (c .before .before .before .before .before .before .before .candidates .ensures) (l .inv .1 .1) (l .inv .1 .0) (c .before .before .before .fill-with .ensures) (c .if1 .taken)
+
+-- src/provable.rt:434:9
+fill-each-add-i : (t : ℕ) → fill-each-lts.Need-add-i (candidates-reads.Asked, candidates-reads.Learnt, fill-with-below t, fill-with.Post, word-of-reads.Asked, word-of-reads.Learnt, push-reads.Asked, push-reads.Learnt) (fill-each-at t) fill-each.Post fill-each-Inv-loop fill-each-μ-loop
+fill-each-add-i t c = search needs
+
+-- src/provable.rt:430:5
+fill-each-loop-less : (t : ℕ) → fill-each-lts.Need-loop-less (candidates-reads.Asked, candidates-reads.Learnt, fill-with-below t, fill-with.Post, word-of-reads.Asked, word-of-reads.Learnt, push-reads.Asked, push-reads.Learnt) (fill-each-at t) fill-each.Post fill-each-Inv-loop fill-each-μ-loop
+fill-each-loop-less t c = search needs
+
+-- src/provable.rt:430:5
+fill-each-loop-again : (t : ℕ) → fill-each-lts.Need-loop-again (candidates-reads.Asked, candidates-reads.Learnt, fill-with-below t, fill-with.Post, word-of-reads.Asked, word-of-reads.Learnt, push-reads.Asked, push-reads.Learnt) (fill-each-at t) fill-each.Post fill-each-Inv-loop fill-each-μ-loop
+fill-each-loop-again t c = let l = c .before .before .before .before .before .before .loop in
+    (omega arith, (c .before .before .before .fill-with .kept .1 .1 .1 .0 ∙ l .inv .1 .0, filling.each-miss (c .before .before .before .before .before .before .before .before .before .before .before .before .before .args .v) (l .i) (c .before .before .before .before .before .before .before .candidates .result) (c .before .before .before .before .before .loop-test .taken) (c .before .before .before .before .before .before .before .candidates .ensures) (l .inv .1 .1) (l .inv .1 .0) (c .before .before .before .fill-with .ensures) (c .if1 .left)))
+
+-- src/provable.rt:436:16
+fill-each-word-of-requires : (t : ℕ) → fill-each-lts.Need-word-of-requires (candidates-reads.Asked, candidates-reads.Learnt, fill-with-below t, fill-with.Post, word-of-reads.Asked, word-of-reads.Learnt, push-reads.Asked, push-reads.Learnt) (fill-each-at t) fill-each.Post fill-each-Inv-loop fill-each-μ-loop
+fill-each-word-of-requires t c κs = search needs
+
+-- src/provable.rt:436:5
+fill-each-push-requires : (t : ℕ) → fill-each-lts.Need-push-requires (candidates-reads.Asked, candidates-reads.Learnt, fill-with-below t, fill-with.Post, word-of-reads.Asked, word-of-reads.Learnt, push-reads.Asked, push-reads.Learnt) (fill-each-at t) fill-each.Post fill-each-Inv-loop fill-each-μ-loop
+fill-each-push-requires t c κs = search needs
+
+-- src/provable.rt:416:1
+fill-each-same-length-2 : (t : ℕ) → fill-each-lts.Need-same-length-2 (candidates-reads.Asked, candidates-reads.Learnt, fill-with-below t, fill-with.Post, word-of-reads.Asked, word-of-reads.Learnt, push-reads.Asked, push-reads.Learnt) (fill-each-at t) fill-each.Post fill-each-Inv-loop fill-each-μ-loop
+fill-each-same-length-2 t c = c .before .before .push .kept .0 ∙ c .before .before .before .before .before .before .loop .inv .1 .0
+
+-- src/provable.rt:416:1
+fill-each-returns-2 : (t : ℕ) → fill-each-lts.Need-returns-2 (candidates-reads.Asked, candidates-reads.Learnt, fill-with-below t, fill-with.Post, word-of-reads.Asked, word-of-reads.Learnt, push-reads.Asked, push-reads.Learnt) (fill-each-at t) fill-each.Post fill-each-Inv-loop fill-each-μ-loop
+fill-each-returns-2 t c = let l = c .before .before .before .before .before .before .loop in
+    filling.each-done (c .before .before .before .before .before .before .before .before .before .before .before .before .before .args .v) (l .i) (c .before .before .before .before .before .before .before .candidates .result) (c .before .before .before .before .before .loop-test .left) (c .before .before .before .before .before .before .before .candidates .ensures) (l .inv .1 .1) (l .inv .1 .0) (c .before .before .before .word-of .ensures) (c .before .before .push .ensures)
+
+-- src/provable.rt:454:9
+fill-with-may-use-requires : (t : ℕ) → fill-with-lts.Need-may-use-requires (may-use-reads.Asked, may-use-reads.Learnt, word-of-reads.Asked, word-of-reads.Learnt, push-reads.Asked, push-reads.Learnt, may-be-reads.Asked, may-be-reads.Learnt, look-body-below t, look-body.Post, fill-below t, fill.Post) (fill-with-at t) fill-with.Post
+fill-with-may-use-requires t c κs = search needs
+
+-- src/provable.rt:455:9
+fill-with-same-length : (t : ℕ) → fill-with-lts.Need-same-length (may-use-reads.Asked, may-use-reads.Learnt, word-of-reads.Asked, word-of-reads.Learnt, push-reads.Asked, push-reads.Learnt, may-be-reads.Asked, may-be-reads.Learnt, look-body-below t, look-body.Post, fill-below t, fill.Post) (fill-with-at t) fill-with.Post
+fill-with-same-length t c = search needs
+
+-- src/provable.rt:455:9
+fill-with-returns : (t : ℕ) → fill-with-lts.Need-returns (may-use-reads.Asked, may-use-reads.Learnt, word-of-reads.Asked, word-of-reads.Learnt, push-reads.Asked, push-reads.Learnt, may-be-reads.Asked, may-be-reads.Learnt, look-body-below t, look-body.Post, fill-below t, fill.Post) (fill-with-at t) fill-with.Post
+fill-with-returns t c = let x = c .before .before .before .before .before .before .before .args in
+    filling.with-barred (x .v) (x .i) (c .before .may-use .result) (c .before .may-use .ensures) (not-true (c .before .may-use .result) (c .if1 .taken))
+
+-- src/provable.rt:457:16
+fill-with-word-of-requires : (t : ℕ) → fill-with-lts.Need-word-of-requires (may-use-reads.Asked, may-use-reads.Learnt, word-of-reads.Asked, word-of-reads.Learnt, push-reads.Asked, push-reads.Learnt, may-be-reads.Asked, may-be-reads.Learnt, look-body-below t, look-body.Post, fill-below t, fill.Post) (fill-with-at t) fill-with.Post
+fill-with-word-of-requires t c κs = search needs
+
+-- src/provable.rt:457:5
+fill-with-push-requires : (t : ℕ) → fill-with-lts.Need-push-requires (may-use-reads.Asked, may-use-reads.Learnt, word-of-reads.Asked, word-of-reads.Learnt, push-reads.Asked, push-reads.Learnt, may-be-reads.Asked, may-be-reads.Learnt, look-body-below t, look-body.Post, fill-below t, fill.Post) (fill-with-at t) fill-with.Post
+fill-with-push-requires t c κs = search needs
+
+-- src/provable.rt:458:9
+fill-with-may-be-requires : (t : ℕ) → fill-with-lts.Need-may-be-requires (may-use-reads.Asked, may-use-reads.Learnt, word-of-reads.Asked, word-of-reads.Learnt, push-reads.Asked, push-reads.Learnt, may-be-reads.Asked, may-be-reads.Learnt, look-body-below t, look-body.Post, fill-below t, fill.Post) (fill-with-at t) fill-with.Post
+fill-with-may-be-requires t c κs = search needs
+
+-- src/provable.rt:459:9
+fill-with-same-length-2 : (t : ℕ) → fill-with-lts.Need-same-length-2 (may-use-reads.Asked, may-use-reads.Learnt, word-of-reads.Asked, word-of-reads.Learnt, push-reads.Asked, push-reads.Learnt, may-be-reads.Asked, may-be-reads.Learnt, look-body-below t, look-body.Post, fill-below t, fill.Post) (fill-with-at t) fill-with.Post
+fill-with-same-length-2 t c = c .before .before .before .before .before .push .kept .0
+
+-- src/provable.rt:459:9
+fill-with-returns-2 : (t : ℕ) → fill-with-lts.Need-returns-2 (may-use-reads.Asked, may-use-reads.Learnt, word-of-reads.Asked, word-of-reads.Learnt, push-reads.Asked, push-reads.Learnt, may-be-reads.Asked, may-be-reads.Learnt, look-body-below t, look-body.Post, fill-below t, fill.Post) (fill-with-at t) fill-with.Post
+fill-with-returns-2 t c = let x = c .before .before .before .before .before .before .before .before .before .before .before .before .before .before .before .args in
+    filling.with-head (x .v) (x .i) (c .before .before .before .before .before .before .before .before .before .may-use .result) (c .before .before .before .before .before .before .before .before .before .may-use .ensures) (not-false (c .before .before .before .before .before .before .before .before .before .may-use .result) (c .before .before .before .before .before .before .before .before .if1 .left)) (c .before .before .before .before .before .before .word-of .ensures) (c .before .before .before .before .before .push .ensures) (c .before .may-be .ensures) (not-true (c .before .may-be .result) (c .if2 .taken))
+
+-- src/provable.rt:461:9
+fill-with-look-body-requires : (t : ℕ) → fill-with-lts.Need-look-body-requires (may-use-reads.Asked, may-use-reads.Learnt, word-of-reads.Asked, word-of-reads.Learnt, push-reads.Asked, push-reads.Learnt, may-be-reads.Asked, may-be-reads.Learnt, look-body-below t, look-body.Post, fill-below t, fill.Post) (fill-with-at t) fill-with.Post
+fill-with-look-body-requires t c κs = (omega (arith, c .before .before .before .before .before .before .before .before .before .before .before .before .before .before .before .before .pre .0), tt)
+
+-- src/provable.rt:462:9
+fill-with-same-length-3 : (t : ℕ) → fill-with-lts.Need-same-length-3 (may-use-reads.Asked, may-use-reads.Learnt, word-of-reads.Asked, word-of-reads.Learnt, push-reads.Asked, push-reads.Learnt, may-be-reads.Asked, may-be-reads.Learnt, look-body-below t, look-body.Post, fill-below t, fill.Post) (fill-with-at t) fill-with.Post
+fill-with-same-length-3 t c = c .before .before .before .look-body .kept .1 .1 .1 .0 ∙ c .before .before .before .before .before .before .before .before .before .before .push .kept .0
+
+-- src/provable.rt:462:9
+fill-with-returns-3 : (t : ℕ) → fill-with-lts.Need-returns-3 (may-use-reads.Asked, may-use-reads.Learnt, word-of-reads.Asked, word-of-reads.Learnt, push-reads.Asked, push-reads.Learnt, may-be-reads.Asked, may-be-reads.Learnt, look-body-below t, look-body.Post, fill-below t, fill.Post) (fill-with-at t) fill-with.Post
+fill-with-returns-3 t c = let x = c .before .before .before .before .before .before .before .before .before .before .before .before .before .before .before .before .before .before .before .before .args in
+    filling.with-body (x .v) (x .i) (c .before .before .before .before .before .before .before .before .before .before .before .before .before .before .may-use .result) (c .before .before .before .before .before .before .before .before .before .before .before .before .before .before .may-use .ensures) (not-false (c .before .before .before .before .before .before .before .before .before .before .before .before .before .before .may-use .result) (c .before .before .before .before .before .before .before .before .before .before .before .before .before .if1 .left)) (c .before .before .before .before .before .before .before .before .before .before .before .word-of .ensures) (c .before .before .before .before .before .before .before .before .before .before .push .ensures) (c .before .before .before .look-body .ensures) (not-true (c .before .before .before .look-body .result) (c .if3 .taken))
+
+-- src/provable.rt:464:5
+fill-with-fill-requires : (t : ℕ) → fill-with-lts.Need-fill-requires (may-use-reads.Asked, may-use-reads.Learnt, word-of-reads.Asked, word-of-reads.Learnt, push-reads.Asked, push-reads.Learnt, may-be-reads.Asked, may-be-reads.Learnt, look-body-below t, look-body.Post, fill-below t, fill.Post) (fill-with-at t) fill-with.Post
+fill-with-fill-requires t c κs = (omega (arith, c .before .before .before .before .before .before .before .before .before .before .before .before .before .before .before .before .before .before .before .before .before .pre .0), tt)
+
+-- src/provable.rt:441:1
+fill-with-same-length-4 : (t : ℕ) → fill-with-lts.Need-same-length-4 (may-use-reads.Asked, may-use-reads.Learnt, word-of-reads.Asked, word-of-reads.Learnt, push-reads.Asked, push-reads.Learnt, may-be-reads.Asked, may-be-reads.Learnt, look-body-below t, look-body.Post, fill-below t, fill.Post) (fill-with-at t) fill-with.Post
+fill-with-same-length-4 t c = c .before .before .fill .kept .1 .1 .1 .0 ∙ (c .before .before .before .before .before .before .before .look-body .kept .1 .1 .1 .0 ∙ c .before .before .before .before .before .before .before .before .before .before .before .before .before .before .push .kept .0)
+
+-- src/provable.rt:441:1
+fill-with-returns-4 : (t : ℕ) → fill-with-lts.Need-returns-4 (may-use-reads.Asked, may-use-reads.Learnt, word-of-reads.Asked, word-of-reads.Learnt, push-reads.Asked, push-reads.Learnt, may-be-reads.Asked, may-be-reads.Learnt, look-body-below t, look-body.Post, fill-below t, fill.Post) (fill-with-at t) fill-with.Post
+fill-with-returns-4 t c = let x = c .before .before .before .before .before .before .before .before .before .before .before .before .before .before .before .before .before .before .before .before .before .before .before .before .args in
+    filling.with-goes (x .v) (x .i) (c .before .before .before .before .before .before .before .before .before .before .before .before .before .before .before .before .before .before .may-use .result) (c .before .before .before .before .before .before .before .before .before .before .before .before .before .before .before .before .before .before .may-use .ensures) (not-false (c .before .before .before .before .before .before .before .before .before .before .before .before .before .before .before .before .before .before .may-use .result) (c .before .before .before .before .before .before .before .before .before .before .before .before .before .before .before .before .before .if1 .left)) (c .before .before .before .before .before .before .before .before .before .before .before .before .before .before .before .word-of .ensures) (c .before .before .before .before .before .before .before .before .before .before .before .before .before .before .push .ensures) (c .before .before .before .before .before .before .before .look-body .ensures) (not-false (c .before .before .before .before .before .before .before .look-body .result) (c .before .before .before .before .if3 .left)) (c .before .before .before .before .before .before .before .look-body .kept .1 .1 .1 .0) (c .before .before .fill .ensures)
+
+-- src/provable.rt:316:11
+look-word-there-requires : (t : ℕ) → look-lts.Need-word-there-requires (word-there-reads.Asked, word-there-reads.Learnt, look-both-below t, look-both.Post, look-one-below t, look-one.Post) (look-at t) look.Post
+look-word-there-requires t c κs = search needs
+
+-- src/provable.rt:317:52
+look-enum-told : (t : ℕ) → look-lts.Need-enum-told (word-there-reads.Asked, word-there-reads.Learnt, look-both-below t, look-both.Post, look-one-below t, look-one.Post) (look-at t) look.Post
+look-enum-told t c = search needs
+
+-- src/provable.rt:317:22
+look-look-both-requires : (t : ℕ) → look-lts.Need-look-both-requires (word-there-reads.Asked, word-there-reads.Learnt, look-both-below t, look-both.Post, look-one-below t, look-one.Post) (look-at t) look.Post
+look-look-both-requires t c κs = (omega (arith, c .before .before .before .before .before .before .before .before .pre .0), tt)
+
+-- src/provable.rt:318:14
+look-look-one-requires : (t : ℕ) → look-lts.Need-look-one-requires (word-there-reads.Asked, word-there-reads.Learnt, look-both-below t, look-both.Post, look-one-below t, look-one.Post) (look-at t) look.Post
+look-look-one-requires t c κs = (omega (arith, c .before .before .before .before .before .before .before .pre .0), tt)
+
+-- src/provable.rt:303:1
+look-same-length : (t : ℕ) → look-lts.Need-same-length (word-there-reads.Asked, word-there-reads.Learnt, look-both-below t, look-both.Post, look-one-below t, look-one.Post) (look-at t) look.Post
+look-same-length t c = c .before .before .look-both .kept .1 .1 .1 .0
+
+-- src/provable.rt:303:1
+look-returns : (t : ℕ) → look-lts.Need-returns (word-there-reads.Asked, word-there-reads.Learnt, look-both-below t, look-both.Post, look-one-below t, look-one.Post) (look-at t) look.Post
+look-returns t c = let k = c .before .before .before .before .before .before .word-there .result in
+    filling.look-and k (c .before .before .before .before .before .before .word-there .ensures) (c .before .before .before .before .enum-told .given .1) (c .before .before .look-both .ensures)
+
+-- src/provable.rt:303:1
+look-same-length-2 : (t : ℕ) → look-lts.Need-same-length-2 (word-there-reads.Asked, word-there-reads.Learnt, look-both-below t, look-both.Post, look-one-below t, look-one.Post) (look-at t) look.Post
+look-same-length-2 t c = c .before .before .look-one .kept .1 .1 .1 .0
+
+-- src/provable.rt:303:1
+look-returns-2 : (t : ℕ) → look-lts.Need-returns-2 (word-there-reads.Asked, word-there-reads.Learnt, look-both-below t, look-both.Post, look-one-below t, look-one.Post) (look-at t) look.Post
+unfolding rank
+look-returns-2 t c = let k = c .before .before .before .before .before .word-there .result in
+    filling.look-other k (c .before .before .before .before .before .word-there .ensures) (filling.other-word k W.And (0 ∷ 1 ∷ 2 ∷ 3 ∷ 4 ∷ 6 ∷ 7 ∷ 8 ∷ 9 ∷ 10 ∷ 11 ∷ 12 ∷ 13 ∷ 14 ∷ 15 ∷ []) (tag-rank k) (c .before .before .before .before .match .keys2) refl) (c .before .before .look-one .ensures)
+
+-- src/provable.rt:297:9
+look-body-returns : (t : ℕ) → look-body-lts.Need-returns (body-place-reads.Asked, body-place-reads.Learnt, look-below t, look.Post) (look-body-at t) look-body.Post
+look-body-returns t c = filling.body-none (not-true (c .before .before .before .before .before .before .args .p .body) (c .if1 .taken))
+
+-- src/provable.rt:299:36
+look-body-body-place-requires : (t : ℕ) → look-body-lts.Need-body-place-requires (body-place-reads.Asked, body-place-reads.Learnt, look-below t, look.Post) (look-body-at t) look-body.Post
+look-body-body-place-requires t c κs = search needs
+
+-- src/provable.rt:299:5
+look-body-look-requires : (t : ℕ) → look-body-lts.Need-look-requires (body-place-reads.Asked, body-place-reads.Learnt, look-below t, look.Post) (look-body-at t) look-body.Post
+look-body-look-requires t c κs = (omega (arith, c .before .before .before .before .before .before .before .before .pre .0), tt)
+
+-- src/provable.rt:283:1
+look-body-same-length : (t : ℕ) → look-body-lts.Need-same-length (body-place-reads.Asked, body-place-reads.Learnt, look-below t, look.Post) (look-body-at t) look-body.Post
+look-body-same-length t c = c .before .before .look .kept .1 .1 .1 .0
+
+-- src/provable.rt:283:1
+look-body-returns-2 : (t : ℕ) → look-body-lts.Need-returns-2 (body-place-reads.Asked, body-place-reads.Learnt, look-below t, look.Post) (look-body-at t) look-body.Post
+look-body-returns-2 t c = filling.body-looked (not-false (c .before .before .before .before .before .before .before .before .before .before .before .args .p .body) (c .before .before .before .before .before .if1 .left)) (c .before .before .before .body-place .ensures) (c .before .before .look .ensures)
+
+-- src/provable.rt:337:9
+look-both-returns : (t : ℕ) → look-both-lts.Need-returns (past-part-reads.Asked, past-part-reads.Learnt, within-reads.Asked, within-reads.Learnt, look-below t, look.Post) (look-both-at t) look-both.Post
+look-both-returns t c = filling.both-flat (c .before .before .before .before .before .args .height) (c .if1 .taken)
+
+-- src/provable.rt:339:26
+look-both-past-part-requires : (t : ℕ) → look-both-lts.Need-past-part-requires (past-part-reads.Asked, past-part-reads.Learnt, within-reads.Asked, within-reads.Learnt, look-below t, look.Post) (look-both-at t) look-both.Post
+look-both-past-part-requires t c κs = search needs
+
+-- src/provable.rt:339:21
+look-both-enum-known-n : (t : ℕ) → look-both-lts.Need-enum-known-n (past-part-reads.Asked, past-part-reads.Learnt, within-reads.Asked, within-reads.Learnt, look-below t, look.Post) (look-both-at t) look-both.Post
+look-both-enum-known-n t c = search needs
+
+-- src/provable.rt:340:9
+look-both-enum-told : (t : ℕ) → look-both-lts.Need-enum-told (past-part-reads.Asked, past-part-reads.Learnt, within-reads.Asked, within-reads.Learnt, look-below t, look.Post) (look-both-at t) look-both.Post
+look-both-enum-told t c = search needs
+
+-- src/provable.rt:340:9
+look-both-returns-2 : (t : ℕ) → look-both-lts.Need-returns-2 (past-part-reads.Asked, past-part-reads.Learnt, within-reads.Asked, within-reads.Learnt, look-below t, look.Post) (look-both-at t) look-both.Post
+look-both-returns-2 t c = filling.both-lost (c .before .before .before .before .before .before .before .before .args .height) (c .before .before .past-part .ensures) (c .enum-told .given .1)
+
+-- src/provable.rt:342:40
+look-both-within-requires : (t : ℕ) → look-both-lts.Need-within-requires (past-part-reads.Asked, past-part-reads.Learnt, within-reads.Asked, within-reads.Learnt, look-below t, look.Post) (look-both-at t) look-both.Post
+look-both-within-requires t c κs = search needs
+
+-- src/provable.rt:342:68
+look-both-sub-look : (t : ℕ) → look-both-lts.Need-sub-look (past-part-reads.Asked, past-part-reads.Learnt, within-reads.Asked, within-reads.Learnt, look-below t, look.Post) (look-both-at t) look-both.Post
+look-both-sub-look t c = search needs
+
+-- src/provable.rt:342:9
+look-both-look-requires : (t : ℕ) → look-both-lts.Need-look-requires (past-part-reads.Asked, past-part-reads.Learnt, within-reads.Asked, within-reads.Learnt, look-below t, look.Post) (look-both-at t) look-both.Post
+look-both-look-requires t c κs = (omega (arith, c .before .before .before .before .before .before .before .before .before .before .before .pre .0, c .before .before .before .before .before .before .if1 .left), tt)
+
+-- src/provable.rt:343:9
+look-both-same-length : (t : ℕ) → look-both-lts.Need-same-length (past-part-reads.Asked, past-part-reads.Learnt, within-reads.Asked, within-reads.Learnt, look-below t, look.Post) (look-both-at t) look-both.Post
+look-both-same-length t c = c .before .before .before .look .kept .1 .1 .1 .0
+
+-- src/provable.rt:343:9
+look-both-returns-3 : (t : ℕ) → look-both-lts.Need-returns-3 (past-part-reads.Asked, past-part-reads.Learnt, within-reads.Asked, within-reads.Learnt, look-below t, look.Post) (look-both-at t) look-both.Post
+look-both-returns-3 t c = filling.both-first (c .before .before .before .before .before .before .before .before .before .before .before .before .before .before .before .args .height) (c .before .before .before .before .before .before .before .before .before .before .if1 .left) (c .before .before .before .before .within .ensures) (c .before .before .before .look .ensures) (not-true (c .before .before .before .look .result) (c .if2 .taken))
+
+-- src/provable.rt:345:36
+look-both-within-requires-2 : (t : ℕ) → look-both-lts.Need-within-requires-2 (past-part-reads.Asked, past-part-reads.Learnt, within-reads.Asked, within-reads.Learnt, look-below t, look.Post) (look-both-at t) look-both.Post
+look-both-within-requires-2 t c κs = search needs
+
+-- src/provable.rt:345:64
+look-both-sub-look-2 : (t : ℕ) → look-both-lts.Need-sub-look-2 (past-part-reads.Asked, past-part-reads.Learnt, within-reads.Asked, within-reads.Learnt, look-below t, look.Post) (look-both-at t) look-both.Post
+look-both-sub-look-2 t c = omega (arith, c .before .before .before .before .before .before .before .before .before .before .before .before .if1 .left)
+
+-- src/provable.rt:345:5
+look-both-look-requires-2 : (t : ℕ) → look-both-lts.Need-look-requires-2 (past-part-reads.Asked, past-part-reads.Learnt, within-reads.Asked, within-reads.Learnt, look-below t, look.Post) (look-both-at t) look-both.Post
+look-both-look-requires-2 t c κs = (omega (arith, c .before .before .before .before .before .before .before .before .before .before .before .before .before .before .before .before .before .pre .0, c .before .before .before .before .before .before .before .before .before .before .before .before .if1 .left), tt)
+
+-- src/provable.rt:323:1
+look-both-same-length-2 : (t : ℕ) → look-both-lts.Need-same-length-2 (past-part-reads.Asked, past-part-reads.Learnt, within-reads.Asked, within-reads.Learnt, look-below t, look.Post) (look-both-at t) look-both.Post
+look-both-same-length-2 t c = c .before .before .look2 .kept .1 .1 .1 .0 ∙ c .before .before .before .before .before .before .before .before .look .kept .1 .1 .1 .0
+
+-- src/provable.rt:323:1
+look-both-returns-4 : (t : ℕ) → look-both-lts.Need-returns-4 (past-part-reads.Asked, past-part-reads.Learnt, within-reads.Asked, within-reads.Learnt, look-below t, look.Post) (look-both-at t) look-both.Post
+look-both-returns-4 t c = filling.both-second (c .before .before .before .before .before .before .before .before .before .before .before .before .before .before .before .before .before .before .before .before .args .height) (c .before .before .before .before .before .before .before .before .before .before .before .before .before .before .before .if1 .left) (c .before .before .before .before .before .before .before .before .before .within .ensures) (c .before .before .before .within2 .ensures) (c .before .before .before .before .before .before .before .before .before .before .before .before .before .before .past-part .ensures) (c .before .before .before .before .before .before .before .before .before .before .before .before .n .given .1) (c .before .before .before .before .before .before .before .before .look .ensures) (not-false (c .before .before .before .before .before .before .before .before .look .result) (c .before .before .before .before .before .if2 .left)) (c .before .before .before .before .before .before .before .before .look .kept .1 .1 .1 .0) (c .before .before .look2 .ensures)
+
+-- src/provable.rt:387:9
+look-one-is-due-requires : (t : ℕ) → look-one-lts.Need-is-due-requires (is-due-reads.Asked, is-due-reads.Learnt, prove-goal-below t, prove-goal.Post) (look-one-at t) look-one.Post
+look-one-is-due-requires t c κs = search needs
+
+-- src/provable.rt:388:9
+look-one-same-length : (t : ℕ) → look-one-lts.Need-same-length (is-due-reads.Asked, is-due-reads.Learnt, prove-goal-below t, prove-goal.Post) (look-one-at t) look-one.Post
+look-one-same-length t c = search needs
+
+-- src/provable.rt:388:9
+look-one-returns : (t : ℕ) → look-one-lts.Need-returns (is-due-reads.Asked, is-due-reads.Learnt, prove-goal-below t, prove-goal.Post) (look-one-at t) look-one.Post
+look-one-returns t c = filling.one-waits (c .before .before .before .before .before .before .before .args .height) (c .before .is-due .ensures) (not-true (c .before .is-due .result) (c .if1 .taken))
+
+-- src/provable.rt:390:5
+look-one-prove-goal-requires : (t : ℕ) → look-one-lts.Need-prove-goal-requires (is-due-reads.Asked, is-due-reads.Learnt, prove-goal-below t, prove-goal.Post) (look-one-at t) look-one.Post
+look-one-prove-goal-requires t c κs = (omega (arith, c .before .before .before .before .before .before .before .before .pre .0), tt)
+
+-- src/provable.rt:374:1
+look-one-same-length-2 : (t : ℕ) → look-one-lts.Need-same-length-2 (is-due-reads.Asked, is-due-reads.Learnt, prove-goal-below t, prove-goal.Post) (look-one-at t) look-one.Post
+look-one-same-length-2 t c = c .before .before .prove-goal .kept .1 .1 .1 .0
+
+-- src/provable.rt:374:1
+look-one-returns-2 : (t : ℕ) → look-one-lts.Need-returns-2 (is-due-reads.Asked, is-due-reads.Learnt, prove-goal-below t, prove-goal.Post) (look-one-at t) look-one.Post
+look-one-returns-2 t c = filling.one-asked (c .before .before .before .before .before .before .before .before .before .before .before .args .height) (c .before .before .before .before .before .is-due .ensures) (not-false (c .before .before .before .before .before .is-due .result) (c .before .before .before .before .if1 .left)) (c .before .before .prove-goal .ensures)
+
+-- src/provable.rt:159:9
 prove-all-returns : (t : ℕ) → prove-all-lts.Need-returns (push-reads.Asked, push-reads.Learnt, bound-reads.Asked, bound-reads.Learnt, prove-goal-below t, prove-goal.Post) (prove-all-at t) prove-all.Post
 prove-all-returns t c = laws.all-full (c .if1 .taken)
 
--- src/provable.rt:153:13
+-- src/provable.rt:161:13
 prove-all-add-p : (t : ℕ) → prove-all-lts.Need-add-p (push-reads.Asked, push-reads.Learnt, bound-reads.Asked, bound-reads.Learnt, prove-goal-below t, prove-goal.Post) (prove-all-at t) prove-all.Post
 prove-all-add-p t c = search needs
 
--- src/provable.rt:154:42
+-- src/provable.rt:162:42
 prove-all-cast-t12 : (t : ℕ) → prove-all-lts.Need-cast-t12 (push-reads.Asked, push-reads.Learnt, bound-reads.Asked, bound-reads.Learnt, prove-goal-below t, prove-goal.Post) (prove-all-at t) prove-all.Post
 prove-all-cast-t12 t c = search needs
 
--- src/provable.rt:154:5
+-- src/provable.rt:162:5
 prove-all-push-requires : (t : ℕ) → prove-all-lts.Need-push-requires (push-reads.Asked, push-reads.Learnt, bound-reads.Asked, bound-reads.Learnt, prove-goal-below t, prove-goal.Post) (prove-all-at t) prove-all.Post
 prove-all-push-requires t c κs = search needs
 
--- src/provable.rt:155:42
+-- src/provable.rt:163:42
 prove-all-bound-requires : (t : ℕ) → prove-all-lts.Need-bound-requires (push-reads.Asked, push-reads.Learnt, bound-reads.Asked, bound-reads.Learnt, prove-goal-below t, prove-goal.Post) (prove-all-at t) prove-all.Post
 prove-all-bound-requires t c κs = search needs
 
--- src/provable.rt:155:5
+-- src/provable.rt:163:5
 prove-all-prove-goal-requires : (t : ℕ) → prove-all-lts.Need-prove-goal-requires (push-reads.Asked, push-reads.Learnt, bound-reads.Asked, bound-reads.Learnt, prove-goal-below t, prove-goal.Post) (prove-all-at t) prove-all.Post
 prove-all-prove-goal-requires t c κs = search needs
 
--- src/provable.rt:140:1
+-- src/provable.rt:148:1
 prove-all-same-length : (t : ℕ) → prove-all-lts.Need-same-length (push-reads.Asked, push-reads.Learnt, bound-reads.Asked, bound-reads.Learnt, prove-goal-below t, prove-goal.Post) (prove-all-at t) prove-all.Post
 prove-all-same-length t c = search needs
 
--- src/provable.rt:140:1
+-- src/provable.rt:148:1
 prove-all-returns-2 : (t : ℕ) → prove-all-lts.Need-returns-2 (push-reads.Asked, push-reads.Learnt, bound-reads.Asked, bound-reads.Learnt, prove-goal-below t, prove-goal.Post) (prove-all-at t) prove-all.Post
 prove-all-returns-2 t c = laws.all-goes {p = c .before .before .before .before .before .before .before .before .before .before .before .before .before .before .before .before .args .w .parameters + 1} refl (c .before .before .before .bound .ensures) (laws.proving-from (c .before .before .before .before .before .before .before .push .ensures) (c .before .before .prove-goal .ensures))
 
@@ -294,289 +691,289 @@ prove-atom-Inv-loop rules goal terms room₀ w left n k₀ room k =
 abbrev prove-atom-μ-loop : prove-atom-lts.MeasureT-loop
 prove-atom-μ-loop rules goal terms room₀ w left n k₀ room k = n - k
 
--- src/provable.rt:190:9
+-- src/provable.rt:198:9
 prove-atom-clauses-requires : (t : ℕ) → prove-atom-lts.Need-clauses-requires (clauses-reads.Asked, clauses-reads.Learnt, use-clause-below t, use-clause.Post) (prove-atom-at t) prove-atom.Post prove-atom-Inv-loop prove-atom-μ-loop
 prove-atom-clauses-requires t c κs = search needs
 
--- src/provable.rt:192:5
+-- src/provable.rt:200:5
 prove-atom-loop-holds : (t : ℕ) → prove-atom-lts.Need-loop-holds (clauses-reads.Asked, clauses-reads.Learnt, use-clause-below t, use-clause.Post) (prove-atom-at t) prove-atom.Post prove-atom-Inv-loop prove-atom-μ-loop
 prove-atom-loop-holds t c = (omega arith, (refl, laws.atom-start))
 
--- src/provable.rt:193:12
+-- src/provable.rt:201:12
 prove-atom-use-clause-requires : (t : ℕ) → prove-atom-lts.Need-use-clause-requires (clauses-reads.Asked, clauses-reads.Learnt, use-clause-below t, use-clause.Post) (prove-atom-at t) prove-atom.Post prove-atom-Inv-loop prove-atom-μ-loop
 prove-atom-use-clause-requires t c κs = search needs
 
--- src/provable.rt:194:13
+-- src/provable.rt:202:13
 prove-atom-same-length : (t : ℕ) → prove-atom-lts.Need-same-length (clauses-reads.Asked, clauses-reads.Learnt, use-clause-below t, use-clause.Post) (prove-atom-at t) prove-atom.Post prove-atom-Inv-loop prove-atom-μ-loop
 prove-atom-same-length t c = c .before .before .before .use-clause .kept .1 .1 .1 .0 ∙ c .before .before .before .before .before .before .loop .inv .1 .0
 
--- src/provable.rt:194:13
+-- src/provable.rt:202:13
 prove-atom-returns : (t : ℕ) → prove-atom-lts.Need-returns (clauses-reads.Asked, clauses-reads.Learnt, use-clause-below t, use-clause.Post) (prove-atom-at t) prove-atom.Post prove-atom-Inv-loop prove-atom-μ-loop
 prove-atom-returns t c = let l = c .before .before .before .before .before .before .loop in
     laws.atom-hit (l .k) (c .before .before .before .before .before .before .before .clauses .result) (c .before .before .before .before .before .loop-test .taken) (c .before .before .before .before .before .before .before .clauses .ensures) (l .inv .1 .1) (l .inv .1 .0) (c .before .before .before .use-clause .ensures) (c .if1 .taken)
 
--- src/provable.rt:196:9
+-- src/provable.rt:204:9
 prove-atom-add-k : (t : ℕ) → prove-atom-lts.Need-add-k (clauses-reads.Asked, clauses-reads.Learnt, use-clause-below t, use-clause.Post) (prove-atom-at t) prove-atom.Post prove-atom-Inv-loop prove-atom-μ-loop
 prove-atom-add-k t c = search needs
 
--- src/provable.rt:192:5
+-- src/provable.rt:200:5
 prove-atom-loop-less : (t : ℕ) → prove-atom-lts.Need-loop-less (clauses-reads.Asked, clauses-reads.Learnt, use-clause-below t, use-clause.Post) (prove-atom-at t) prove-atom.Post prove-atom-Inv-loop prove-atom-μ-loop
 prove-atom-loop-less t c = search needs
 
--- src/provable.rt:192:5
+-- src/provable.rt:200:5
 prove-atom-loop-again : (t : ℕ) → prove-atom-lts.Need-loop-again (clauses-reads.Asked, clauses-reads.Learnt, use-clause-below t, use-clause.Post) (prove-atom-at t) prove-atom.Post prove-atom-Inv-loop prove-atom-μ-loop
 prove-atom-loop-again t c = let l = c .before .before .before .before .before .before .loop in
     (omega arith, (c .before .before .before .use-clause .kept .1 .1 .1 .0 ∙ l .inv .1 .0, laws.atom-miss (l .k) (c .before .before .before .before .before .before .before .clauses .result) (c .before .before .before .before .before .loop-test .taken) (c .before .before .before .before .before .before .before .clauses .ensures) (l .inv .1 .1) (l .inv .1 .0) (c .before .before .before .use-clause .ensures) (c .if1 .left)))
 
--- src/provable.rt:180:1
+-- src/provable.rt:188:1
 prove-atom-same-length-2 : (t : ℕ) → prove-atom-lts.Need-same-length-2 (clauses-reads.Asked, clauses-reads.Learnt, use-clause-below t, use-clause.Post) (prove-atom-at t) prove-atom.Post prove-atom-Inv-loop prove-atom-μ-loop
 prove-atom-same-length-2 t c = c .before .loop .inv .1 .0
 
--- src/provable.rt:180:1
+-- src/provable.rt:188:1
 prove-atom-returns-2 : (t : ℕ) → prove-atom-lts.Need-returns-2 (clauses-reads.Asked, clauses-reads.Learnt, use-clause-below t, use-clause.Post) (prove-atom-at t) prove-atom.Post prove-atom-Inv-loop prove-atom-μ-loop
 prove-atom-returns-2 t c = let l = c .before .loop in
     laws.atom-done (l .k) (c .before .before .clauses .result) (c .loop-test .left) (c .before .before .clauses .ensures) (l .inv .1 .1)
 
--- src/provable.rt:69:26
+-- src/provable.rt:77:26
 prove-both-past-part-requires : (t : ℕ) → prove-both-lts.Need-past-part-requires (past-part-reads.Asked, past-part-reads.Learnt, within-reads.Asked, within-reads.Learnt, prove-goal-below t, prove-goal.Post) (prove-both-at t) prove-both.Post
 prove-both-past-part-requires t c κs = search needs
 
--- src/provable.rt:69:21
+-- src/provable.rt:77:21
 prove-both-enum-known-n : (t : ℕ) → prove-both-lts.Need-enum-known-n (past-part-reads.Asked, past-part-reads.Learnt, within-reads.Asked, within-reads.Learnt, prove-goal-below t, prove-goal.Post) (prove-both-at t) prove-both.Post
 prove-both-enum-known-n t c = search needs
 
--- src/provable.rt:70:9
+-- src/provable.rt:78:9
 prove-both-enum-told : (t : ℕ) → prove-both-lts.Need-enum-told (past-part-reads.Asked, past-part-reads.Learnt, within-reads.Asked, within-reads.Learnt, prove-goal-below t, prove-goal.Post) (prove-both-at t) prove-both.Post
 prove-both-enum-told t c = search needs
 
--- src/provable.rt:70:9
+-- src/provable.rt:78:9
 prove-both-returns : (t : ℕ) → prove-both-lts.Need-returns (past-part-reads.Asked, past-part-reads.Learnt, within-reads.Asked, within-reads.Learnt, prove-goal-below t, prove-goal.Post) (prove-both-at t) prove-both.Post
 prove-both-returns t c = laws.both-lost (c .before .before .past-part .ensures) (c .enum-told .given .1)
 
--- src/provable.rt:72:46
+-- src/provable.rt:80:46
 prove-both-within-requires : (t : ℕ) → prove-both-lts.Need-within-requires (past-part-reads.Asked, past-part-reads.Learnt, within-reads.Asked, within-reads.Learnt, prove-goal-below t, prove-goal.Post) (prove-both-at t) prove-both.Post
 prove-both-within-requires t c κs = search needs
 
--- src/provable.rt:72:9
+-- src/provable.rt:80:9
 prove-both-prove-goal-requires : (t : ℕ) → prove-both-lts.Need-prove-goal-requires (past-part-reads.Asked, past-part-reads.Learnt, within-reads.Asked, within-reads.Learnt, prove-goal-below t, prove-goal.Post) (prove-both-at t) prove-both.Post
 prove-both-prove-goal-requires t c κs = search needs
 
--- src/provable.rt:73:9
+-- src/provable.rt:81:9
 prove-both-same-length : (t : ℕ) → prove-both-lts.Need-same-length (past-part-reads.Asked, past-part-reads.Learnt, within-reads.Asked, within-reads.Learnt, prove-goal-below t, prove-goal.Post) (prove-both-at t) prove-both.Post
 prove-both-same-length t c = search needs
 
--- src/provable.rt:73:9
+-- src/provable.rt:81:9
 prove-both-returns-2 : (t : ℕ) → prove-both-lts.Need-returns-2 (past-part-reads.Asked, past-part-reads.Learnt, within-reads.Asked, within-reads.Learnt, prove-goal-below t, prove-goal.Post) (prove-both-at t) prove-both.Post
 prove-both-returns-2 t c = laws.both-first (c .before .before .before .before .within .ensures) (c .before .before .before .prove-goal .ensures) (not-true (c .before .before .before .prove-goal .result) (c .if1 .taken))
 
--- src/provable.rt:75:42
+-- src/provable.rt:83:42
 prove-both-within-requires-2 : (t : ℕ) → prove-both-lts.Need-within-requires-2 (past-part-reads.Asked, past-part-reads.Learnt, within-reads.Asked, within-reads.Learnt, prove-goal-below t, prove-goal.Post) (prove-both-at t) prove-both.Post
 prove-both-within-requires-2 t c κs = search needs
 
--- src/provable.rt:75:5
+-- src/provable.rt:83:5
 prove-both-prove-goal-requires-2 : (t : ℕ) → prove-both-lts.Need-prove-goal-requires-2 (past-part-reads.Asked, past-part-reads.Learnt, within-reads.Asked, within-reads.Learnt, prove-goal-below t, prove-goal.Post) (prove-both-at t) prove-both.Post
 prove-both-prove-goal-requires-2 t c κs = (omega (arith, c .before .before .before .before .before .before .before .before .before .before .before .before .before .before .before .before .pre .0), tt)
 
--- src/provable.rt:59:1
+-- src/provable.rt:67:1
 prove-both-same-length-2 : (t : ℕ) → prove-both-lts.Need-same-length-2 (past-part-reads.Asked, past-part-reads.Learnt, within-reads.Asked, within-reads.Learnt, prove-goal-below t, prove-goal.Post) (prove-both-at t) prove-both.Post
 prove-both-same-length-2 t c = search needs
 
--- src/provable.rt:59:1
+-- src/provable.rt:67:1
 prove-both-returns-3 : (t : ℕ) → prove-both-lts.Need-returns-3 (past-part-reads.Asked, past-part-reads.Learnt, within-reads.Asked, within-reads.Learnt, prove-goal-below t, prove-goal.Post) (prove-both-at t) prove-both.Post
 prove-both-returns-3 t c = laws.both-second (c .before .before .before .before .before .before .before .before .before .within .ensures) (c .before .before .before .within2 .ensures) (c .before .before .before .before .before .before .before .before .before .before .before .before .before .before .past-part .ensures) (c .before .before .before .before .before .before .before .before .before .before .before .before .n .given .1) (c .before .before .before .before .before .before .before .before .prove-goal .ensures) (not-false (c .before .before .before .before .before .before .before .before .prove-goal .result) (c .before .before .before .before .before .if1 .left)) (c .before .before .before .before .before .before .before .before .prove-goal .kept .1 .1 .1 .0) (c .before .before .prove-goal2 .ensures)
 
--- src/provable.rt:89:26
+-- src/provable.rt:97:26
 prove-either-past-part-requires : (t : ℕ) → prove-either-lts.Need-past-part-requires (past-part-reads.Asked, past-part-reads.Learnt, within-reads.Asked, within-reads.Learnt, prove-goal-below t, prove-goal.Post) (prove-either-at t) prove-either.Post
 prove-either-past-part-requires t c κs = search needs
 
--- src/provable.rt:89:21
+-- src/provable.rt:97:21
 prove-either-enum-known-n : (t : ℕ) → prove-either-lts.Need-enum-known-n (past-part-reads.Asked, past-part-reads.Learnt, within-reads.Asked, within-reads.Learnt, prove-goal-below t, prove-goal.Post) (prove-either-at t) prove-either.Post
 prove-either-enum-known-n t c = search needs
 
--- src/provable.rt:90:9
+-- src/provable.rt:98:9
 prove-either-enum-told : (t : ℕ) → prove-either-lts.Need-enum-told (past-part-reads.Asked, past-part-reads.Learnt, within-reads.Asked, within-reads.Learnt, prove-goal-below t, prove-goal.Post) (prove-either-at t) prove-either.Post
 prove-either-enum-told t c = search needs
 
--- src/provable.rt:90:9
+-- src/provable.rt:98:9
 prove-either-returns : (t : ℕ) → prove-either-lts.Need-returns (past-part-reads.Asked, past-part-reads.Learnt, within-reads.Asked, within-reads.Learnt, prove-goal-below t, prove-goal.Post) (prove-either-at t) prove-either.Post
 prove-either-returns t c = laws.either-lost (c .before .before .past-part .ensures) (c .enum-told .given .1)
 
--- src/provable.rt:92:45
+-- src/provable.rt:100:45
 prove-either-within-requires : (t : ℕ) → prove-either-lts.Need-within-requires (past-part-reads.Asked, past-part-reads.Learnt, within-reads.Asked, within-reads.Learnt, prove-goal-below t, prove-goal.Post) (prove-either-at t) prove-either.Post
 prove-either-within-requires t c κs = search needs
 
--- src/provable.rt:92:8
+-- src/provable.rt:100:8
 prove-either-prove-goal-requires : (t : ℕ) → prove-either-lts.Need-prove-goal-requires (past-part-reads.Asked, past-part-reads.Learnt, within-reads.Asked, within-reads.Learnt, prove-goal-below t, prove-goal.Post) (prove-either-at t) prove-either.Post
 prove-either-prove-goal-requires t c κs = search needs
 
--- src/provable.rt:93:9
+-- src/provable.rt:101:9
 prove-either-same-length : (t : ℕ) → prove-either-lts.Need-same-length (past-part-reads.Asked, past-part-reads.Learnt, within-reads.Asked, within-reads.Learnt, prove-goal-below t, prove-goal.Post) (prove-either-at t) prove-either.Post
 prove-either-same-length t c = search needs
 
--- src/provable.rt:93:9
+-- src/provable.rt:101:9
 prove-either-returns-2 : (t : ℕ) → prove-either-lts.Need-returns-2 (past-part-reads.Asked, past-part-reads.Learnt, within-reads.Asked, within-reads.Learnt, prove-goal-below t, prove-goal.Post) (prove-either-at t) prove-either.Post
 prove-either-returns-2 t c = laws.either-first (c .before .before .before .before .within .ensures) (c .before .before .before .prove-goal .ensures) (c .if1 .taken)
 
--- src/provable.rt:95:42
+-- src/provable.rt:103:42
 prove-either-within-requires-2 : (t : ℕ) → prove-either-lts.Need-within-requires-2 (past-part-reads.Asked, past-part-reads.Learnt, within-reads.Asked, within-reads.Learnt, prove-goal-below t, prove-goal.Post) (prove-either-at t) prove-either.Post
 prove-either-within-requires-2 t c κs = search needs
 
--- src/provable.rt:95:5
+-- src/provable.rt:103:5
 prove-either-prove-goal-requires-2 : (t : ℕ) → prove-either-lts.Need-prove-goal-requires-2 (past-part-reads.Asked, past-part-reads.Learnt, within-reads.Asked, within-reads.Learnt, prove-goal-below t, prove-goal.Post) (prove-either-at t) prove-either.Post
 prove-either-prove-goal-requires-2 t c κs = (omega (arith, c .before .before .before .before .before .before .before .before .before .before .before .before .before .before .before .before .pre .0), tt)
 
--- src/provable.rt:79:1
+-- src/provable.rt:87:1
 prove-either-same-length-2 : (t : ℕ) → prove-either-lts.Need-same-length-2 (past-part-reads.Asked, past-part-reads.Learnt, within-reads.Asked, within-reads.Learnt, prove-goal-below t, prove-goal.Post) (prove-either-at t) prove-either.Post
 prove-either-same-length-2 t c = search needs
 
--- src/provable.rt:79:1
+-- src/provable.rt:87:1
 prove-either-returns-3 : (t : ℕ) → prove-either-lts.Need-returns-3 (past-part-reads.Asked, past-part-reads.Learnt, within-reads.Asked, within-reads.Learnt, prove-goal-below t, prove-goal.Post) (prove-either-at t) prove-either.Post
 prove-either-returns-3 t c = laws.either-second (c .before .before .before .before .before .before .before .before .before .within .ensures) (c .before .before .before .within2 .ensures) (c .before .before .before .before .before .before .before .before .before .before .before .before .before .before .past-part .ensures) (c .before .before .before .before .before .before .before .before .before .before .before .before .n .given .1) (c .before .before .before .before .before .before .before .before .prove-goal .ensures) (c .before .before .before .before .before .if1 .left) (c .before .before .before .before .before .before .before .before .prove-goal .kept .1 .1 .1 .0) (c .before .before .prove-goal2 .ensures)
 
--- src/provable.rt:44:9
+-- src/provable.rt:52:9
 prove-goal-returns : (t : ℕ) → prove-goal-lts.Need-returns (word-there-reads.Asked, word-there-reads.Learnt, prove-atom-below t, prove-atom.Post, prove-both-below t, prove-both.Post, prove-either-below t, prove-either.Post, prove-some-below t, prove-some.Post, prove-all-below t, prove-all.Post, prove-under-below t, prove-under.Post) (prove-goal-at t) prove-goal.Post
 prove-goal-returns t c = laws.no-height (c .before .before .before .before .before .args .height) (c .if1 .taken)
 
--- src/provable.rt:46:11
+-- src/provable.rt:54:11
 prove-goal-word-there-requires : (t : ℕ) → prove-goal-lts.Need-word-there-requires (word-there-reads.Asked, word-there-reads.Learnt, prove-atom-below t, prove-atom.Post, prove-both-below t, prove-both.Post, prove-either-below t, prove-either.Post, prove-some-below t, prove-some.Post, prove-all-below t, prove-all.Post, prove-under-below t, prove-under.Post) (prove-goal-at t) prove-goal.Post
 prove-goal-word-there-requires t c κs = search needs
 
--- src/provable.rt:47:22
+-- src/provable.rt:55:22
 prove-goal-enum-told : (t : ℕ) → prove-goal-lts.Need-enum-told (word-there-reads.Asked, word-there-reads.Learnt, prove-atom-below t, prove-atom.Post, prove-both-below t, prove-both.Post, prove-either-below t, prove-either.Post, prove-some-below t, prove-some.Post, prove-all-below t, prove-all.Post, prove-under-below t, prove-under.Post) (prove-goal-at t) prove-goal.Post
 prove-goal-enum-told t c = search needs
 
--- src/provable.rt:48:54
+-- src/provable.rt:56:54
 prove-goal-enum-told-2 : (t : ℕ) → prove-goal-lts.Need-enum-told-2 (word-there-reads.Asked, word-there-reads.Learnt, prove-atom-below t, prove-atom.Post, prove-both-below t, prove-both.Post, prove-either-below t, prove-either.Post, prove-some-below t, prove-some.Post, prove-all-below t, prove-all.Post, prove-under-below t, prove-under.Post) (prove-goal-at t) prove-goal.Post
 prove-goal-enum-told-2 t c = search needs
 
--- src/provable.rt:48:63
+-- src/provable.rt:56:63
 prove-goal-sub-prove-atom : (t : ℕ) → prove-goal-lts.Need-sub-prove-atom (word-there-reads.Asked, word-there-reads.Learnt, prove-atom-below t, prove-atom.Post, prove-both-below t, prove-both.Post, prove-either-below t, prove-either.Post, prove-some-below t, prove-some.Post, prove-all-below t, prove-all.Post, prove-under-below t, prove-under.Post) (prove-goal-at t) prove-goal.Post
 prove-goal-sub-prove-atom t c = search needs
 
--- src/provable.rt:48:23
+-- src/provable.rt:56:23
 prove-goal-prove-atom-requires : (t : ℕ) → prove-goal-lts.Need-prove-atom-requires (word-there-reads.Asked, word-there-reads.Learnt, prove-atom-below t, prove-atom.Post, prove-both-below t, prove-both.Post, prove-either-below t, prove-either.Post, prove-some-below t, prove-some.Post, prove-all-below t, prove-all.Post, prove-under-below t, prove-under.Post) (prove-goal-at t) prove-goal.Post
 prove-goal-prove-atom-requires t c κs = search needs
 
--- src/provable.rt:49:53
+-- src/provable.rt:57:53
 prove-goal-enum-told-3 : (t : ℕ) → prove-goal-lts.Need-enum-told-3 (word-there-reads.Asked, word-there-reads.Learnt, prove-atom-below t, prove-atom.Post, prove-both-below t, prove-both.Post, prove-either-below t, prove-either.Post, prove-some-below t, prove-some.Post, prove-all-below t, prove-all.Post, prove-under-below t, prove-under.Post) (prove-goal-at t) prove-goal.Post
 prove-goal-enum-told-3 t c = search needs
 
--- src/provable.rt:49:62
+-- src/provable.rt:57:62
 prove-goal-sub-prove-both : (t : ℕ) → prove-goal-lts.Need-sub-prove-both (word-there-reads.Asked, word-there-reads.Learnt, prove-atom-below t, prove-atom.Post, prove-both-below t, prove-both.Post, prove-either-below t, prove-either.Post, prove-some-below t, prove-some.Post, prove-all-below t, prove-all.Post, prove-under-below t, prove-under.Post) (prove-goal-at t) prove-goal.Post
 prove-goal-sub-prove-both t c = search needs
 
--- src/provable.rt:49:22
+-- src/provable.rt:57:22
 prove-goal-prove-both-requires : (t : ℕ) → prove-goal-lts.Need-prove-both-requires (word-there-reads.Asked, word-there-reads.Learnt, prove-atom-below t, prove-atom.Post, prove-both-below t, prove-both.Post, prove-either-below t, prove-either.Post, prove-some-below t, prove-some.Post, prove-all-below t, prove-all.Post, prove-under-below t, prove-under.Post) (prove-goal-at t) prove-goal.Post
 prove-goal-prove-both-requires t c κs = search needs
 
--- src/provable.rt:50:54
+-- src/provable.rt:58:54
 prove-goal-enum-told-4 : (t : ℕ) → prove-goal-lts.Need-enum-told-4 (word-there-reads.Asked, word-there-reads.Learnt, prove-atom-below t, prove-atom.Post, prove-both-below t, prove-both.Post, prove-either-below t, prove-either.Post, prove-some-below t, prove-some.Post, prove-all-below t, prove-all.Post, prove-under-below t, prove-under.Post) (prove-goal-at t) prove-goal.Post
 prove-goal-enum-told-4 t c = search needs
 
--- src/provable.rt:50:63
+-- src/provable.rt:58:63
 prove-goal-sub-prove-either : (t : ℕ) → prove-goal-lts.Need-sub-prove-either (word-there-reads.Asked, word-there-reads.Learnt, prove-atom-below t, prove-atom.Post, prove-both-below t, prove-both.Post, prove-either-below t, prove-either.Post, prove-some-below t, prove-some.Post, prove-all-below t, prove-all.Post, prove-under-below t, prove-under.Post) (prove-goal-at t) prove-goal.Post
 prove-goal-sub-prove-either t c = search needs
 
--- src/provable.rt:50:21
+-- src/provable.rt:58:21
 prove-goal-prove-either-requires : (t : ℕ) → prove-goal-lts.Need-prove-either-requires (word-there-reads.Asked, word-there-reads.Learnt, prove-atom-below t, prove-atom.Post, prove-both-below t, prove-both.Post, prove-either-below t, prove-either.Post, prove-some-below t, prove-some.Post, prove-all-below t, prove-all.Post, prove-under-below t, prove-under.Post) (prove-goal-at t) prove-goal.Post
 prove-goal-prove-either-requires t c κs = search needs
 
--- src/provable.rt:51:54
+-- src/provable.rt:59:54
 prove-goal-enum-told-5 : (t : ℕ) → prove-goal-lts.Need-enum-told-5 (word-there-reads.Asked, word-there-reads.Learnt, prove-atom-below t, prove-atom.Post, prove-both-below t, prove-both.Post, prove-either-below t, prove-either.Post, prove-some-below t, prove-some.Post, prove-all-below t, prove-all.Post, prove-under-below t, prove-under.Post) (prove-goal-at t) prove-goal.Post
 prove-goal-enum-told-5 t c = search needs
 
--- src/provable.rt:51:63
+-- src/provable.rt:59:63
 prove-goal-sub-prove-some : (t : ℕ) → prove-goal-lts.Need-sub-prove-some (word-there-reads.Asked, word-there-reads.Learnt, prove-atom-below t, prove-atom.Post, prove-both-below t, prove-both.Post, prove-either-below t, prove-either.Post, prove-some-below t, prove-some.Post, prove-all-below t, prove-all.Post, prove-under-below t, prove-under.Post) (prove-goal-at t) prove-goal.Post
 prove-goal-sub-prove-some t c = search needs
 
--- src/provable.rt:51:23
+-- src/provable.rt:59:23
 prove-goal-prove-some-requires : (t : ℕ) → prove-goal-lts.Need-prove-some-requires (word-there-reads.Asked, word-there-reads.Learnt, prove-atom-below t, prove-atom.Post, prove-both-below t, prove-both.Post, prove-either-below t, prove-either.Post, prove-some-below t, prove-some.Post, prove-all-below t, prove-all.Post, prove-under-below t, prove-under.Post) (prove-goal-at t) prove-goal.Post
 prove-goal-prove-some-requires t c κs = search needs
 
--- src/provable.rt:52:52
+-- src/provable.rt:60:52
 prove-goal-enum-told-6 : (t : ℕ) → prove-goal-lts.Need-enum-told-6 (word-there-reads.Asked, word-there-reads.Learnt, prove-atom-below t, prove-atom.Post, prove-both-below t, prove-both.Post, prove-either-below t, prove-either.Post, prove-some-below t, prove-some.Post, prove-all-below t, prove-all.Post, prove-under-below t, prove-under.Post) (prove-goal-at t) prove-goal.Post
 prove-goal-enum-told-6 t c = search needs
 
--- src/provable.rt:52:61
+-- src/provable.rt:60:61
 prove-goal-sub-prove-all : (t : ℕ) → prove-goal-lts.Need-sub-prove-all (word-there-reads.Asked, word-there-reads.Learnt, prove-atom-below t, prove-atom.Post, prove-both-below t, prove-both.Post, prove-either-below t, prove-either.Post, prove-some-below t, prove-some.Post, prove-all-below t, prove-all.Post, prove-under-below t, prove-under.Post) (prove-goal-at t) prove-goal.Post
 prove-goal-sub-prove-all t c = search needs
 
--- src/provable.rt:52:22
+-- src/provable.rt:60:22
 prove-goal-prove-all-requires : (t : ℕ) → prove-goal-lts.Need-prove-all-requires (word-there-reads.Asked, word-there-reads.Learnt, prove-atom-below t, prove-atom.Post, prove-both-below t, prove-both.Post, prove-either-below t, prove-either.Post, prove-some-below t, prove-some.Post, prove-all-below t, prove-all.Post, prove-under-below t, prove-under.Post) (prove-goal-at t) prove-goal.Post
 prove-goal-prove-all-requires t c κs = search needs
 
--- src/provable.rt:53:54
+-- src/provable.rt:61:54
 prove-goal-enum-told-7 : (t : ℕ) → prove-goal-lts.Need-enum-told-7 (word-there-reads.Asked, word-there-reads.Learnt, prove-atom-below t, prove-atom.Post, prove-both-below t, prove-both.Post, prove-either-below t, prove-either.Post, prove-some-below t, prove-some.Post, prove-all-below t, prove-all.Post, prove-under-below t, prove-under.Post) (prove-goal-at t) prove-goal.Post
 prove-goal-enum-told-7 t c = search needs
 
--- src/provable.rt:53:63
+-- src/provable.rt:61:63
 prove-goal-sub-prove-under : (t : ℕ) → prove-goal-lts.Need-sub-prove-under (word-there-reads.Asked, word-there-reads.Learnt, prove-atom-below t, prove-atom.Post, prove-both-below t, prove-both.Post, prove-either-below t, prove-either.Post, prove-some-below t, prove-some.Post, prove-all-below t, prove-all.Post, prove-under-below t, prove-under.Post) (prove-goal-at t) prove-goal.Post
 prove-goal-sub-prove-under t c = search needs
 
--- src/provable.rt:53:22
+-- src/provable.rt:61:22
 prove-goal-prove-under-requires : (t : ℕ) → prove-goal-lts.Need-prove-under-requires (word-there-reads.Asked, word-there-reads.Learnt, prove-atom-below t, prove-atom.Post, prove-both-below t, prove-both.Post, prove-either-below t, prove-either.Post, prove-some-below t, prove-some.Post, prove-all-below t, prove-all.Post, prove-under-below t, prove-under.Post) (prove-goal-at t) prove-goal.Post
 prove-goal-prove-under-requires t c κs = search needs
 
--- src/provable.rt:33:1
+-- src/provable.rt:41:1
 prove-goal-returns-2 : (t : ℕ) → prove-goal-lts.Need-returns-2 (word-there-reads.Asked, word-there-reads.Learnt, prove-atom-below t, prove-atom.Post, prove-both-below t, prove-both.Post, prove-either-below t, prove-either.Post, prove-some-below t, prove-some.Post, prove-all-below t, prove-all.Post, prove-under-below t, prove-under.Post) (prove-goal-at t) prove-goal.Post
 prove-goal-returns-2 t c = let x = c .before .before .before .before .before .before .before .before .args in
     laws.by-word (x .height) W.Top (c .before .before .word-there .result) (c .before .before .before .if1 .left) (c .before .before .word-there .ensures) (c .enum-told .given .1) (laws.top-proved (x .height - 1))
 
--- src/provable.rt:33:1
+-- src/provable.rt:41:1
 prove-goal-same-length : (t : ℕ) → prove-goal-lts.Need-same-length (word-there-reads.Asked, word-there-reads.Learnt, prove-atom-below t, prove-atom.Post, prove-both-below t, prove-both.Post, prove-either-below t, prove-either.Post, prove-some-below t, prove-some.Post, prove-all-below t, prove-all.Post, prove-under-below t, prove-under.Post) (prove-goal-at t) prove-goal.Post
 prove-goal-same-length t c = search needs
 
--- src/provable.rt:33:1
+-- src/provable.rt:41:1
 prove-goal-returns-3 : (t : ℕ) → prove-goal-lts.Need-returns-3 (word-there-reads.Asked, word-there-reads.Learnt, prove-atom-below t, prove-atom.Post, prove-both-below t, prove-both.Post, prove-either-below t, prove-either.Post, prove-some-below t, prove-some.Post, prove-all-below t, prove-all.Post, prove-under-below t, prove-under.Post) (prove-goal-at t) prove-goal.Post
 prove-goal-returns-3 t c = let x = c .before .before .before .before .before .before .before .before .before .before .before .before .args in
     laws.by-word (x .height) W.Atom (c .before .before .before .before .before .before .word-there .result) (c .before .before .before .before .before .before .before .if1 .left) (c .before .before .before .before .before .before .word-there .ensures) (c .before .before .before .before .enum-told2 .given .1) (c .before .before .prove-atom .ensures)
 
--- src/provable.rt:33:1
+-- src/provable.rt:41:1
 prove-goal-same-length-2 : (t : ℕ) → prove-goal-lts.Need-same-length-2 (word-there-reads.Asked, word-there-reads.Learnt, prove-atom-below t, prove-atom.Post, prove-both-below t, prove-both.Post, prove-either-below t, prove-either.Post, prove-some-below t, prove-some.Post, prove-all-below t, prove-all.Post, prove-under-below t, prove-under.Post) (prove-goal-at t) prove-goal.Post
 prove-goal-same-length-2 t c = search needs
 
--- src/provable.rt:33:1
+-- src/provable.rt:41:1
 prove-goal-returns-4 : (t : ℕ) → prove-goal-lts.Need-returns-4 (word-there-reads.Asked, word-there-reads.Learnt, prove-atom-below t, prove-atom.Post, prove-both-below t, prove-both.Post, prove-either-below t, prove-either.Post, prove-some-below t, prove-some.Post, prove-all-below t, prove-all.Post, prove-under-below t, prove-under.Post) (prove-goal-at t) prove-goal.Post
 prove-goal-returns-4 t c = let x = c .before .before .before .before .before .before .before .before .before .before .before .before .args in
     laws.by-word (x .height) W.And (c .before .before .before .before .before .before .word-there .result) (c .before .before .before .before .before .before .before .if1 .left) (c .before .before .before .before .before .before .word-there .ensures) (c .before .before .before .before .enum-told3 .given .1) (c .before .before .prove-both .ensures)
 
--- src/provable.rt:33:1
+-- src/provable.rt:41:1
 prove-goal-same-length-3 : (t : ℕ) → prove-goal-lts.Need-same-length-3 (word-there-reads.Asked, word-there-reads.Learnt, prove-atom-below t, prove-atom.Post, prove-both-below t, prove-both.Post, prove-either-below t, prove-either.Post, prove-some-below t, prove-some.Post, prove-all-below t, prove-all.Post, prove-under-below t, prove-under.Post) (prove-goal-at t) prove-goal.Post
 prove-goal-same-length-3 t c = search needs
 
--- src/provable.rt:33:1
+-- src/provable.rt:41:1
 prove-goal-returns-5 : (t : ℕ) → prove-goal-lts.Need-returns-5 (word-there-reads.Asked, word-there-reads.Learnt, prove-atom-below t, prove-atom.Post, prove-both-below t, prove-both.Post, prove-either-below t, prove-either.Post, prove-some-below t, prove-some.Post, prove-all-below t, prove-all.Post, prove-under-below t, prove-under.Post) (prove-goal-at t) prove-goal.Post
 prove-goal-returns-5 t c = let x = c .before .before .before .before .before .before .before .before .before .before .before .before .args in
     laws.by-word (x .height) W.Or (c .before .before .before .before .before .before .word-there .result) (c .before .before .before .before .before .before .before .if1 .left) (c .before .before .before .before .before .before .word-there .ensures) (c .before .before .before .before .enum-told4 .given .1) (c .before .before .prove-either .ensures)
 
--- src/provable.rt:33:1
+-- src/provable.rt:41:1
 prove-goal-same-length-4 : (t : ℕ) → prove-goal-lts.Need-same-length-4 (word-there-reads.Asked, word-there-reads.Learnt, prove-atom-below t, prove-atom.Post, prove-both-below t, prove-both.Post, prove-either-below t, prove-either.Post, prove-some-below t, prove-some.Post, prove-all-below t, prove-all.Post, prove-under-below t, prove-under.Post) (prove-goal-at t) prove-goal.Post
 prove-goal-same-length-4 t c = search needs
 
--- src/provable.rt:33:1
+-- src/provable.rt:41:1
 prove-goal-returns-6 : (t : ℕ) → prove-goal-lts.Need-returns-6 (word-there-reads.Asked, word-there-reads.Learnt, prove-atom-below t, prove-atom.Post, prove-both-below t, prove-both.Post, prove-either-below t, prove-either.Post, prove-some-below t, prove-some.Post, prove-all-below t, prove-all.Post, prove-under-below t, prove-under.Post) (prove-goal-at t) prove-goal.Post
 prove-goal-returns-6 t c = let x = c .before .before .before .before .before .before .before .before .before .before .before .before .args in
     laws.by-word (x .height) W.Some (c .before .before .before .before .before .before .word-there .result) (c .before .before .before .before .before .before .before .if1 .left) (c .before .before .before .before .before .before .word-there .ensures) (c .before .before .before .before .enum-told5 .given .1) (c .before .before .prove-some .ensures)
 
--- src/provable.rt:33:1
+-- src/provable.rt:41:1
 prove-goal-same-length-5 : (t : ℕ) → prove-goal-lts.Need-same-length-5 (word-there-reads.Asked, word-there-reads.Learnt, prove-atom-below t, prove-atom.Post, prove-both-below t, prove-both.Post, prove-either-below t, prove-either.Post, prove-some-below t, prove-some.Post, prove-all-below t, prove-all.Post, prove-under-below t, prove-under.Post) (prove-goal-at t) prove-goal.Post
 prove-goal-same-length-5 t c = search needs
 
--- src/provable.rt:33:1
+-- src/provable.rt:41:1
 prove-goal-returns-7 : (t : ℕ) → prove-goal-lts.Need-returns-7 (word-there-reads.Asked, word-there-reads.Learnt, prove-atom-below t, prove-atom.Post, prove-both-below t, prove-both.Post, prove-either-below t, prove-either.Post, prove-some-below t, prove-some.Post, prove-all-below t, prove-all.Post, prove-under-below t, prove-under.Post) (prove-goal-at t) prove-goal.Post
 prove-goal-returns-7 t c = let x = c .before .before .before .before .before .before .before .before .before .before .before .before .args in
     laws.by-word (x .height) W.All (c .before .before .before .before .before .before .word-there .result) (c .before .before .before .before .before .before .before .if1 .left) (c .before .before .before .before .before .before .word-there .ensures) (c .before .before .before .before .enum-told6 .given .1) (c .before .before .prove-all .ensures)
 
--- src/provable.rt:33:1
+-- src/provable.rt:41:1
 prove-goal-same-length-6 : (t : ℕ) → prove-goal-lts.Need-same-length-6 (word-there-reads.Asked, word-there-reads.Learnt, prove-atom-below t, prove-atom.Post, prove-both-below t, prove-both.Post, prove-either-below t, prove-either.Post, prove-some-below t, prove-some.Post, prove-all-below t, prove-all.Post, prove-under-below t, prove-under.Post) (prove-goal-at t) prove-goal.Post
 prove-goal-same-length-6 t c = search needs
 
--- src/provable.rt:33:1
+-- src/provable.rt:41:1
 prove-goal-returns-8 : (t : ℕ) → prove-goal-lts.Need-returns-8 (word-there-reads.Asked, word-there-reads.Learnt, prove-atom-below t, prove-atom.Post, prove-both-below t, prove-both.Post, prove-either-below t, prove-either.Post, prove-some-below t, prove-some.Post, prove-all-below t, prove-all.Post, prove-under-below t, prove-under.Post) (prove-goal-at t) prove-goal.Post
 prove-goal-returns-8 t c = let x = c .before .before .before .before .before .before .before .before .before .before .before .before .args in
     laws.by-word (x .height) W.Imp (c .before .before .before .before .before .before .word-there .result) (c .before .before .before .before .before .before .before .if1 .left) (c .before .before .before .before .before .before .word-there .ensures) (c .before .before .before .before .enum-told7 .given .1) (c .before .before .prove-under .ensures)
 
--- src/provable.rt:33:1
+-- src/provable.rt:41:1
 prove-goal-returns-9 : (t : ℕ) → prove-goal-lts.Need-returns-9 (word-there-reads.Asked, word-there-reads.Learnt, prove-atom-below t, prove-atom.Post, prove-both-below t, prove-both.Post, prove-either-below t, prove-either.Post, prove-some-below t, prove-some.Post, prove-all-below t, prove-all.Post, prove-under-below t, prove-under.Post) (prove-goal-at t) prove-goal.Post
 unfolding rows rank
 prove-goal-returns-9 t c =
@@ -590,302 +987,244 @@ prove-some-Inv-loop rules goal terms room₀ w left n i₀ room i =
 abbrev prove-some-μ-loop : prove-some-lts.MeasureT-loop
 prove-some-μ-loop rules goal terms room₀ w left n i₀ room i = n - i
 
--- src/provable.rt:109:9
+-- src/provable.rt:117:9
 prove-some-candidates-requires : (t : ℕ) → prove-some-lts.Need-candidates-requires (candidates-reads.Asked, candidates-reads.Learnt, prove-with-below t, prove-with.Post) (prove-some-at t) prove-some.Post prove-some-Inv-loop prove-some-μ-loop
 prove-some-candidates-requires t c κs = search needs
 
--- src/provable.rt:111:5
+-- src/provable.rt:119:5
 prove-some-loop-holds : (t : ℕ) → prove-some-lts.Need-loop-holds (candidates-reads.Asked, candidates-reads.Learnt, prove-with-below t, prove-with.Post) (prove-some-at t) prove-some.Post prove-some-Inv-loop prove-some-μ-loop
 prove-some-loop-holds t c = (omega arith, (refl, laws.some-start))
 
--- src/provable.rt:112:12
+-- src/provable.rt:120:12
 prove-some-prove-with-requires : (t : ℕ) → prove-some-lts.Need-prove-with-requires (candidates-reads.Asked, candidates-reads.Learnt, prove-with-below t, prove-with.Post) (prove-some-at t) prove-some.Post prove-some-Inv-loop prove-some-μ-loop
 prove-some-prove-with-requires t c κs = search needs
 
--- src/provable.rt:113:13
+-- src/provable.rt:121:13
 prove-some-same-length : (t : ℕ) → prove-some-lts.Need-same-length (candidates-reads.Asked, candidates-reads.Learnt, prove-with-below t, prove-with.Post) (prove-some-at t) prove-some.Post prove-some-Inv-loop prove-some-μ-loop
 prove-some-same-length t c = c .before .before .before .prove-with .kept .1 .1 .1 .0 ∙ c .before .before .before .before .before .before .loop .inv .1 .0
 
--- src/provable.rt:113:13
+-- src/provable.rt:121:13
 prove-some-returns : (t : ℕ) → prove-some-lts.Need-returns (candidates-reads.Asked, candidates-reads.Learnt, prove-with-below t, prove-with.Post) (prove-some-at t) prove-some.Post prove-some-Inv-loop prove-some-μ-loop
 prove-some-returns t c = let l = c .before .before .before .before .before .before .loop in
     laws.some-hit (l .i) (c .before .before .before .before .before .before .before .candidates .result) (c .before .before .before .before .before .loop-test .taken) (c .before .before .before .before .before .before .before .candidates .ensures) (l .inv .1 .1) (l .inv .1 .0) (c .before .before .before .prove-with .ensures) (c .if1 .taken)
 
--- src/provable.rt:115:9
+-- src/provable.rt:123:9
 prove-some-add-i : (t : ℕ) → prove-some-lts.Need-add-i (candidates-reads.Asked, candidates-reads.Learnt, prove-with-below t, prove-with.Post) (prove-some-at t) prove-some.Post prove-some-Inv-loop prove-some-μ-loop
 prove-some-add-i t c = search needs
 
--- src/provable.rt:111:5
+-- src/provable.rt:119:5
 prove-some-loop-less : (t : ℕ) → prove-some-lts.Need-loop-less (candidates-reads.Asked, candidates-reads.Learnt, prove-with-below t, prove-with.Post) (prove-some-at t) prove-some.Post prove-some-Inv-loop prove-some-μ-loop
 prove-some-loop-less t c = search needs
 
--- src/provable.rt:111:5
+-- src/provable.rt:119:5
 prove-some-loop-again : (t : ℕ) → prove-some-lts.Need-loop-again (candidates-reads.Asked, candidates-reads.Learnt, prove-with-below t, prove-with.Post) (prove-some-at t) prove-some.Post prove-some-Inv-loop prove-some-μ-loop
 prove-some-loop-again t c = let l = c .before .before .before .before .before .before .loop in
     (omega arith, (c .before .before .before .prove-with .kept .1 .1 .1 .0 ∙ l .inv .1 .0, laws.some-miss (l .i) (c .before .before .before .before .before .before .before .candidates .result) (c .before .before .before .before .before .loop-test .taken) (c .before .before .before .before .before .before .before .candidates .ensures) (l .inv .1 .1) (l .inv .1 .0) (c .before .before .before .prove-with .ensures) (c .if1 .left)))
 
--- src/provable.rt:99:1
+-- src/provable.rt:107:1
 prove-some-same-length-2 : (t : ℕ) → prove-some-lts.Need-same-length-2 (candidates-reads.Asked, candidates-reads.Learnt, prove-with-below t, prove-with.Post) (prove-some-at t) prove-some.Post prove-some-Inv-loop prove-some-μ-loop
 prove-some-same-length-2 t c = c .before .loop .inv .1 .0
 
--- src/provable.rt:99:1
+-- src/provable.rt:107:1
 prove-some-returns-2 : (t : ℕ) → prove-some-lts.Need-returns-2 (candidates-reads.Asked, candidates-reads.Learnt, prove-with-below t, prove-with.Post) (prove-some-at t) prove-some.Post prove-some-Inv-loop prove-some-μ-loop
 prove-some-returns-2 t c = let l = c .before .loop in
     laws.some-done (l .i) (c .before .before .candidates .result) (c .loop-test .left) (c .before .before .candidates .ensures) (l .inv .1 .1)
 
--- src/provable.rt:170:9
+-- src/provable.rt:178:9
 prove-under-returns : (t : ℕ) → prove-under-lts.Need-returns (past-part-reads.Asked, past-part-reads.Learnt, further-reads.Asked, further-reads.Learnt, suppose-reads.Asked, suppose-reads.Learnt, supposes-reads.Asked, supposes-reads.Learnt, prove-goal-below t, prove-goal.Post) (prove-under-at t) prove-under.Post
 prove-under-returns t c = laws.under-flat (c .if1 .taken)
 
--- src/provable.rt:172:26
+-- src/provable.rt:180:26
 prove-under-past-part-requires : (t : ℕ) → prove-under-lts.Need-past-part-requires (past-part-reads.Asked, past-part-reads.Learnt, further-reads.Asked, further-reads.Learnt, suppose-reads.Asked, suppose-reads.Learnt, supposes-reads.Asked, supposes-reads.Learnt, prove-goal-below t, prove-goal.Post) (prove-under-at t) prove-under.Post
 prove-under-past-part-requires t c κs = search needs
 
--- src/provable.rt:172:21
+-- src/provable.rt:180:21
 prove-under-enum-known-n : (t : ℕ) → prove-under-lts.Need-enum-known-n (past-part-reads.Asked, past-part-reads.Learnt, further-reads.Asked, further-reads.Learnt, suppose-reads.Asked, suppose-reads.Learnt, supposes-reads.Asked, supposes-reads.Learnt, prove-goal-below t, prove-goal.Post) (prove-under-at t) prove-under.Post
 prove-under-enum-known-n t c = search needs
 
--- src/provable.rt:173:9
+-- src/provable.rt:181:9
 prove-under-enum-told : (t : ℕ) → prove-under-lts.Need-enum-told (past-part-reads.Asked, past-part-reads.Learnt, further-reads.Asked, further-reads.Learnt, suppose-reads.Asked, suppose-reads.Learnt, supposes-reads.Asked, supposes-reads.Learnt, prove-goal-below t, prove-goal.Post) (prove-under-at t) prove-under.Post
 prove-under-enum-told t c = search needs
 
--- src/provable.rt:173:9
+-- src/provable.rt:181:9
 prove-under-returns-2 : (t : ℕ) → prove-under-lts.Need-returns-2 (past-part-reads.Asked, past-part-reads.Learnt, further-reads.Asked, further-reads.Learnt, suppose-reads.Asked, suppose-reads.Learnt, supposes-reads.Asked, supposes-reads.Learnt, prove-goal-below t, prove-goal.Post) (prove-under-at t) prove-under.Post
 prove-under-returns-2 t c = laws.under-lost (c .before .before .past-part .ensures) (c .enum-told .given .1)
 
--- src/provable.rt:175:31
+-- src/provable.rt:183:31
 prove-under-further-requires : (t : ℕ) → prove-under-lts.Need-further-requires (past-part-reads.Asked, past-part-reads.Learnt, further-reads.Asked, further-reads.Learnt, suppose-reads.Asked, suppose-reads.Learnt, supposes-reads.Asked, supposes-reads.Learnt, prove-goal-below t, prove-goal.Post) (prove-under-at t) prove-under.Post
 prove-under-further-requires t c κs = search needs
 
--- src/provable.rt:175:5
+-- src/provable.rt:183:5
 prove-under-suppose-requires : (t : ℕ) → prove-under-lts.Need-suppose-requires (past-part-reads.Asked, past-part-reads.Learnt, further-reads.Asked, further-reads.Learnt, suppose-reads.Asked, suppose-reads.Learnt, supposes-reads.Asked, supposes-reads.Learnt, prove-goal-below t, prove-goal.Post) (prove-under-at t) prove-under.Post
 prove-under-suppose-requires t c κs = search needs
 
--- src/provable.rt:176:42
+-- src/provable.rt:184:42
 prove-under-supposes-requires : (t : ℕ) → prove-under-lts.Need-supposes-requires (past-part-reads.Asked, past-part-reads.Learnt, further-reads.Asked, further-reads.Learnt, suppose-reads.Asked, suppose-reads.Learnt, supposes-reads.Asked, supposes-reads.Learnt, prove-goal-below t, prove-goal.Post) (prove-under-at t) prove-under.Post
 prove-under-supposes-requires t c κs = search needs
 
--- src/provable.rt:176:5
+-- src/provable.rt:184:5
 prove-under-prove-goal-requires : (t : ℕ) → prove-under-lts.Need-prove-goal-requires (past-part-reads.Asked, past-part-reads.Learnt, further-reads.Asked, further-reads.Learnt, suppose-reads.Asked, suppose-reads.Learnt, supposes-reads.Asked, supposes-reads.Learnt, prove-goal-below t, prove-goal.Post) (prove-under-at t) prove-under.Post
 prove-under-prove-goal-requires t c κs = search needs
 
--- src/provable.rt:159:1
+-- src/provable.rt:167:1
 prove-under-same-length : (t : ℕ) → prove-under-lts.Need-same-length (past-part-reads.Asked, past-part-reads.Learnt, further-reads.Asked, further-reads.Learnt, suppose-reads.Asked, suppose-reads.Learnt, supposes-reads.Asked, supposes-reads.Learnt, prove-goal-below t, prove-goal.Post) (prove-under-at t) prove-under.Post
 prove-under-same-length t c = search needs
 
--- src/provable.rt:159:1
+-- src/provable.rt:167:1
 prove-under-returns-3 : (t : ℕ) → prove-under-lts.Need-returns-3 (past-part-reads.Asked, past-part-reads.Learnt, further-reads.Asked, further-reads.Learnt, suppose-reads.Asked, suppose-reads.Learnt, supposes-reads.Asked, supposes-reads.Learnt, prove-goal-below t, prove-goal.Post) (prove-under-at t) prove-under.Post
 prove-under-returns-3 t c = laws.under-goes (c .before .before .before .before .before .before .before .before .before .before .before .before .before .before .if1 .left) (c .before .before .before .before .before .before .before .before .further .ensures) (c .before .before .before .supposes .ensures) (c .before .before .before .before .before .before .before .before .before .before .before .before .before .past-part .ensures) (c .before .before .before .before .before .before .before .before .before .before .before .n .given .1) (laws.proving-from (c .before .before .before .before .before .before .before .suppose .ensures) (c .before .before .prove-goal .ensures))
 
--- src/provable.rt:132:9
+-- src/provable.rt:140:9
 prove-with-may-use-requires : (t : ℕ) → prove-with-lts.Need-may-use-requires (may-use-reads.Asked, may-use-reads.Learnt, push-reads.Asked, push-reads.Learnt, bound-reads.Asked, bound-reads.Learnt, prove-goal-below t, prove-goal.Post) (prove-with-at t) prove-with.Post
 prove-with-may-use-requires t c κs = search needs
 
--- src/provable.rt:133:9
+-- src/provable.rt:141:9
 prove-with-same-length : (t : ℕ) → prove-with-lts.Need-same-length (may-use-reads.Asked, may-use-reads.Learnt, push-reads.Asked, push-reads.Learnt, bound-reads.Asked, bound-reads.Learnt, prove-goal-below t, prove-goal.Post) (prove-with-at t) prove-with.Post
 prove-with-same-length t c = search needs
 
--- src/provable.rt:133:9
+-- src/provable.rt:141:9
 prove-with-returns : (t : ℕ) → prove-with-lts.Need-returns (may-use-reads.Asked, may-use-reads.Learnt, push-reads.Asked, push-reads.Learnt, bound-reads.Asked, bound-reads.Learnt, prove-goal-below t, prove-goal.Post) (prove-with-at t) prove-with.Post
 prove-with-returns t c = laws.with-barred (c .before .before .before .before .before .before .before .args .i) (c .before .may-use .result) (c .before .may-use .ensures) (not-true (c .before .may-use .result) (c .if1 .taken))
 
--- src/provable.rt:135:5
+-- src/provable.rt:143:5
 prove-with-push-requires : (t : ℕ) → prove-with-lts.Need-push-requires (may-use-reads.Asked, may-use-reads.Learnt, push-reads.Asked, push-reads.Learnt, bound-reads.Asked, bound-reads.Learnt, prove-goal-below t, prove-goal.Post) (prove-with-at t) prove-with.Post
 prove-with-push-requires t c κs = search needs
 
--- src/provable.rt:136:42
+-- src/provable.rt:144:42
 prove-with-bound-requires : (t : ℕ) → prove-with-lts.Need-bound-requires (may-use-reads.Asked, may-use-reads.Learnt, push-reads.Asked, push-reads.Learnt, bound-reads.Asked, bound-reads.Learnt, prove-goal-below t, prove-goal.Post) (prove-with-at t) prove-with.Post
 prove-with-bound-requires t c κs = search needs
 
--- src/provable.rt:136:5
+-- src/provable.rt:144:5
 prove-with-prove-goal-requires : (t : ℕ) → prove-with-lts.Need-prove-goal-requires (may-use-reads.Asked, may-use-reads.Learnt, push-reads.Asked, push-reads.Learnt, bound-reads.Asked, bound-reads.Learnt, prove-goal-below t, prove-goal.Post) (prove-with-at t) prove-with.Post
 prove-with-prove-goal-requires t c κs = search needs
 
--- src/provable.rt:121:1
+-- src/provable.rt:129:1
 prove-with-same-length-2 : (t : ℕ) → prove-with-lts.Need-same-length-2 (may-use-reads.Asked, may-use-reads.Learnt, push-reads.Asked, push-reads.Learnt, bound-reads.Asked, bound-reads.Learnt, prove-goal-below t, prove-goal.Post) (prove-with-at t) prove-with.Post
 prove-with-same-length-2 t c = search needs
 
--- src/provable.rt:121:1
+-- src/provable.rt:129:1
 prove-with-returns-2 : (t : ℕ) → prove-with-lts.Need-returns-2 (may-use-reads.Asked, may-use-reads.Learnt, push-reads.Asked, push-reads.Learnt, bound-reads.Asked, bound-reads.Learnt, prove-goal-below t, prove-goal.Post) (prove-with-at t) prove-with.Post
 prove-with-returns-2 t c = laws.with-goes (c .before .before .before .before .before .before .before .before .before .before .before .before .before .before .before .before .args .i) (c .before .before .before .before .before .before .before .before .before .before .may-use .result) (c .before .before .before .before .before .before .before .before .before .before .may-use .ensures) (not-false (c .before .before .before .before .before .before .before .before .before .before .may-use .result) (c .before .before .before .before .before .before .before .before .before .if1 .left)) (c .before .before .before .bound .ensures) (laws.proving-from (c .before .before .before .before .before .before .before .push .ensures) (c .before .before .prove-goal .ensures))
 
--- src/provable.rt:236:9
-through-returns : (t : ℕ) → through-lts.Need-returns (word-there-reads.Asked, word-there-reads.Learnt, same-atoms-reads.Asked, same-atoms-reads.Learnt, through-imp-below t, through-imp.Post, through-and-below t, through-and.Post, through-all-below t, through-all.Post) (through-at t) through.Post
+-- src/provable.rt:244:9
+through-returns : (t : ℕ) → through-lts.Need-returns (parts-of-reads.Asked, parts-of-reads.Learnt, through-plain-below t, through-plain.Post, word-there-reads.Asked, word-there-reads.Learnt, through-and-below t, through-and.Post, through-each-below t, through-each.Post) (through-at t) through.Post
 through-returns t c = passing.no-nest (c .before .before .before .before .before .args .nest) (c .if1 .taken)
 
--- src/provable.rt:238:11
-through-word-there-requires : (t : ℕ) → through-lts.Need-word-there-requires (word-there-reads.Asked, word-there-reads.Learnt, same-atoms-reads.Asked, same-atoms-reads.Learnt, through-imp-below t, through-imp.Post, through-and-below t, through-and.Post, through-all-below t, through-all.Post) (through-at t) through.Post
+-- src/provable.rt:246:9
+through-parts-of-requires : (t : ℕ) → through-lts.Need-parts-of-requires (parts-of-reads.Asked, parts-of-reads.Learnt, through-plain-below t, through-plain.Post, word-there-reads.Asked, word-there-reads.Learnt, through-and-below t, through-and.Post, through-each-below t, through-each.Post) (through-at t) through.Post
+through-parts-of-requires t c κs = search needs
+
+-- src/provable.rt:248:9
+through-through-plain-requires : (t : ℕ) → through-lts.Need-through-plain-requires (parts-of-reads.Asked, parts-of-reads.Learnt, through-plain-below t, through-plain.Post, word-there-reads.Asked, word-there-reads.Learnt, through-and-below t, through-and.Post, through-each-below t, through-each.Post) (through-at t) through.Post
+through-through-plain-requires t c κs = (omega (arith, c .before .before .before .before .before .before .before .before .pre .0, c .before .before .parts-of .ensures .few), tt)
+
+-- src/provable.rt:248:9
+through-same-length : (t : ℕ) → through-lts.Need-same-length (parts-of-reads.Asked, parts-of-reads.Learnt, through-plain-below t, through-plain.Post, word-there-reads.Asked, word-there-reads.Learnt, through-and-below t, through-and.Post, through-each-below t, through-each.Post) (through-at t) through.Post
+through-same-length t c = c .before .before .through-plain .kept .1 .1 .1 .0
+
+-- src/provable.rt:248:9
+through-returns-2 : (t : ℕ) → through-lts.Need-returns-2 (parts-of-reads.Asked, parts-of-reads.Learnt, through-plain-below t, through-plain.Post, word-there-reads.Asked, word-there-reads.Learnt, through-and-below t, through-and.Post, through-each-below t, through-each.Post) (through-at t) through.Post
+through-returns-2 t c = filling.plain-found (c .before .before .before .before .before .before .before .before .before .before .before .args .nest) (c .before .before .before .before .before .parts-of .ensures) (c .before .before .before .before .if2 .taken) (c .before .before .through-plain .ensures)
+
+-- src/provable.rt:250:11
+through-word-there-requires : (t : ℕ) → through-lts.Need-word-there-requires (parts-of-reads.Asked, parts-of-reads.Learnt, through-plain-below t, through-plain.Post, word-there-reads.Asked, word-there-reads.Learnt, through-and-below t, through-and.Post, through-each-below t, through-each.Post) (through-at t) through.Post
 through-word-there-requires t c κs = search needs
 
--- src/provable.rt:239:54
-through-enum-told : (t : ℕ) → through-lts.Need-enum-told (word-there-reads.Asked, word-there-reads.Learnt, same-atoms-reads.Asked, same-atoms-reads.Learnt, through-imp-below t, through-imp.Post, through-and-below t, through-and.Post, through-all-below t, through-all.Post) (through-at t) through.Post
+-- src/provable.rt:251:54
+through-enum-told : (t : ℕ) → through-lts.Need-enum-told (parts-of-reads.Asked, parts-of-reads.Learnt, through-plain-below t, through-plain.Post, word-there-reads.Asked, word-there-reads.Learnt, through-and-below t, through-and.Post, through-each-below t, through-each.Post) (through-at t) through.Post
 through-enum-told t c = search needs
 
--- src/provable.rt:239:23
-through-same-atoms-requires : (t : ℕ) → through-lts.Need-same-atoms-requires (word-there-reads.Asked, word-there-reads.Learnt, same-atoms-reads.Asked, same-atoms-reads.Learnt, through-imp-below t, through-imp.Post, through-and-below t, through-and.Post, through-all-below t, through-all.Post) (through-at t) through.Post
-through-same-atoms-requires t c κs = search needs
-
--- src/provable.rt:240:54
-through-enum-told-2 : (t : ℕ) → through-lts.Need-enum-told-2 (word-there-reads.Asked, word-there-reads.Learnt, same-atoms-reads.Asked, same-atoms-reads.Learnt, through-imp-below t, through-imp.Post, through-and-below t, through-and.Post, through-all-below t, through-all.Post) (through-at t) through.Post
-through-enum-told-2 t c = search needs
-
--- src/provable.rt:240:22
-through-through-imp-requires : (t : ℕ) → through-lts.Need-through-imp-requires (word-there-reads.Asked, word-there-reads.Learnt, same-atoms-reads.Asked, same-atoms-reads.Learnt, through-imp-below t, through-imp.Post, through-and-below t, through-and.Post, through-all-below t, through-all.Post) (through-at t) through.Post
-through-through-imp-requires t c κs = search needs
-
--- src/provable.rt:241:54
-through-enum-told-3 : (t : ℕ) → through-lts.Need-enum-told-3 (word-there-reads.Asked, word-there-reads.Learnt, same-atoms-reads.Asked, same-atoms-reads.Learnt, through-imp-below t, through-imp.Post, through-and-below t, through-and.Post, through-all-below t, through-all.Post) (through-at t) through.Post
-through-enum-told-3 t c = search needs
-
--- src/provable.rt:241:66
-through-sub-through-and : (t : ℕ) → through-lts.Need-sub-through-and (word-there-reads.Asked, word-there-reads.Learnt, same-atoms-reads.Asked, same-atoms-reads.Learnt, through-imp-below t, through-imp.Post, through-and-below t, through-and.Post, through-all-below t, through-all.Post) (through-at t) through.Post
+-- src/provable.rt:251:66
+through-sub-through-and : (t : ℕ) → through-lts.Need-sub-through-and (parts-of-reads.Asked, parts-of-reads.Learnt, through-plain-below t, through-plain.Post, word-there-reads.Asked, word-there-reads.Learnt, through-and-below t, through-and.Post, through-each-below t, through-each.Post) (through-at t) through.Post
 through-sub-through-and t c = search needs
 
--- src/provable.rt:241:22
-through-through-and-requires : (t : ℕ) → through-lts.Need-through-and-requires (word-there-reads.Asked, word-there-reads.Learnt, same-atoms-reads.Asked, same-atoms-reads.Learnt, through-imp-below t, through-imp.Post, through-and-below t, through-and.Post, through-all-below t, through-all.Post) (through-at t) through.Post
-through-through-and-requires t c κs = search needs
+-- src/provable.rt:251:22
+through-through-and-requires : (t : ℕ) → through-lts.Need-through-and-requires (parts-of-reads.Asked, parts-of-reads.Learnt, through-plain-below t, through-plain.Post, word-there-reads.Asked, word-there-reads.Learnt, through-and-below t, through-and.Post, through-each-below t, through-each.Post) (through-at t) through.Post
+through-through-and-requires t c κs = (omega (arith, c .before .before .before .before .before .before .before .before .before .before .before .pre .0, c .before .before .before .before .before .before .if1 .left), tt)
 
--- src/provable.rt:242:54
-through-enum-told-4 : (t : ℕ) → through-lts.Need-enum-told-4 (word-there-reads.Asked, word-there-reads.Learnt, same-atoms-reads.Asked, same-atoms-reads.Learnt, through-imp-below t, through-imp.Post, through-and-below t, through-and.Post, through-all-below t, through-all.Post) (through-at t) through.Post
-through-enum-told-4 t c = search needs
+-- src/provable.rt:252:55
+through-enum-told-2 : (t : ℕ) → through-lts.Need-enum-told-2 (parts-of-reads.Asked, parts-of-reads.Learnt, through-plain-below t, through-plain.Post, word-there-reads.Asked, word-there-reads.Learnt, through-and-below t, through-and.Post, through-each-below t, through-each.Post) (through-at t) through.Post
+through-enum-told-2 t c = search needs
 
--- src/provable.rt:242:66
-through-sub-through-all : (t : ℕ) → through-lts.Need-sub-through-all (word-there-reads.Asked, word-there-reads.Learnt, same-atoms-reads.Asked, same-atoms-reads.Learnt, through-imp-below t, through-imp.Post, through-and-below t, through-and.Post, through-all-below t, through-all.Post) (through-at t) through.Post
-through-sub-through-all t c = search needs
+-- src/provable.rt:252:67
+through-sub-through-each : (t : ℕ) → through-lts.Need-sub-through-each (parts-of-reads.Asked, parts-of-reads.Learnt, through-plain-below t, through-plain.Post, word-there-reads.Asked, word-there-reads.Learnt, through-and-below t, through-and.Post, through-each-below t, through-each.Post) (through-at t) through.Post
+through-sub-through-each t c = search needs
 
--- src/provable.rt:242:22
-through-through-all-requires : (t : ℕ) → through-lts.Need-through-all-requires (word-there-reads.Asked, word-there-reads.Learnt, same-atoms-reads.Asked, same-atoms-reads.Learnt, through-imp-below t, through-imp.Post, through-and-below t, through-and.Post, through-all-below t, through-all.Post) (through-at t) through.Post
-through-through-all-requires t c κs = search needs
+-- src/provable.rt:252:22
+through-through-each-requires : (t : ℕ) → through-lts.Need-through-each-requires (parts-of-reads.Asked, parts-of-reads.Learnt, through-plain-below t, through-plain.Post, word-there-reads.Asked, word-there-reads.Learnt, through-and-below t, through-and.Post, through-each-below t, through-each.Post) (through-at t) through.Post
+through-through-each-requires t c κs = (omega (arith, c .before .before .before .before .before .before .before .before .before .before .before .pre .0, c .before .before .before .before .before .before .if1 .left), tt)
 
--- src/provable.rt:223:1
-through-same-length : (t : ℕ) → through-lts.Need-same-length (word-there-reads.Asked, word-there-reads.Learnt, same-atoms-reads.Asked, same-atoms-reads.Learnt, through-imp-below t, through-imp.Post, through-and-below t, through-and.Post, through-all-below t, through-all.Post) (through-at t) through.Post
-through-same-length t c = search needs
+-- src/provable.rt:231:1
+through-same-length-2 : (t : ℕ) → through-lts.Need-same-length-2 (parts-of-reads.Asked, parts-of-reads.Learnt, through-plain-below t, through-plain.Post, word-there-reads.Asked, word-there-reads.Learnt, through-and-below t, through-and.Post, through-each-below t, through-each.Post) (through-at t) through.Post
+through-same-length-2 t c = c .before .before .through-and .kept .1 .1 .1 .0
 
--- src/provable.rt:223:1
-through-returns-2 : (t : ℕ) → through-lts.Need-returns-2 (word-there-reads.Asked, word-there-reads.Learnt, same-atoms-reads.Asked, same-atoms-reads.Learnt, through-imp-below t, through-imp.Post, through-and-below t, through-and.Post, through-all-below t, through-all.Post) (through-at t) through.Post
-through-returns-2 t c = let x = c .before .before .before .before .before .before .before .before .before .before .args in
-    passing.by-word (x .nest) W.Atom (c .before .before .before .before .word-there .result) (c .before .before .before .before .before .if1 .left) (c .before .before .before .before .word-there .ensures) (c .before .before .enum-told .given .1) (passing.atom-same (x .nest - 1) (c .same-atoms .ensures))
+-- src/provable.rt:231:1
+through-returns-3 : (t : ℕ) → through-lts.Need-returns-3 (parts-of-reads.Asked, parts-of-reads.Learnt, through-plain-below t, through-plain.Post, word-there-reads.Asked, word-there-reads.Learnt, through-and-below t, through-and.Post, through-each-below t, through-each.Post) (through-at t) through.Post
+through-returns-3 t c = let x = c .before .before .before .before .before .before .before .before .before .before .before .before .before .before .args in
+    passing.by-word (x .nest) W.And (c .before .before .before .before .before .before .word-there .result) (c .before .before .before .before .before .before .before .before .before .if1 .left) (c .before .before .before .before .before .before .word-there .ensures) (c .before .before .before .before .enum-told .given .1) (c .before .before .through-and .ensures)
 
--- src/provable.rt:223:1
-through-same-length-2 : (t : ℕ) → through-lts.Need-same-length-2 (word-there-reads.Asked, word-there-reads.Learnt, same-atoms-reads.Asked, same-atoms-reads.Learnt, through-imp-below t, through-imp.Post, through-and-below t, through-and.Post, through-all-below t, through-all.Post) (through-at t) through.Post
-through-same-length-2 t c = search needs
+-- src/provable.rt:231:1
+through-same-length-3 : (t : ℕ) → through-lts.Need-same-length-3 (parts-of-reads.Asked, parts-of-reads.Learnt, through-plain-below t, through-plain.Post, word-there-reads.Asked, word-there-reads.Learnt, through-and-below t, through-and.Post, through-each-below t, through-each.Post) (through-at t) through.Post
+through-same-length-3 t c = c .before .before .through-each .kept .1 .1 .1 .0
 
--- src/provable.rt:223:1
-through-returns-3 : (t : ℕ) → through-lts.Need-returns-3 (word-there-reads.Asked, word-there-reads.Learnt, same-atoms-reads.Asked, same-atoms-reads.Learnt, through-imp-below t, through-imp.Post, through-and-below t, through-and.Post, through-all-below t, through-all.Post) (through-at t) through.Post
-through-returns-3 t c = let x = c .before .before .before .before .before .before .before .before .before .before .before .before .args in
-    passing.by-word (x .nest) W.Imp (c .before .before .before .before .before .before .word-there .result) (c .before .before .before .before .before .before .before .if1 .left) (c .before .before .before .before .before .before .word-there .ensures) (c .before .before .before .before .enum-told2 .given .1) (c .before .before .through-imp .ensures (x .nest - 1))
+-- src/provable.rt:231:1
+through-returns-4 : (t : ℕ) → through-lts.Need-returns-4 (parts-of-reads.Asked, parts-of-reads.Learnt, through-plain-below t, through-plain.Post, word-there-reads.Asked, word-there-reads.Learnt, through-and-below t, through-and.Post, through-each-below t, through-each.Post) (through-at t) through.Post
+through-returns-4 t c = let x = c .before .before .before .before .before .before .before .before .before .before .before .before .before .before .args in
+    passing.by-word (x .nest) W.All (c .before .before .before .before .before .before .word-there .result) (c .before .before .before .before .before .before .before .before .before .if1 .left) (c .before .before .before .before .before .before .word-there .ensures) (c .before .before .before .before .enum-told2 .given .1) (c .before .before .through-each .ensures)
 
--- src/provable.rt:223:1
-through-same-length-3 : (t : ℕ) → through-lts.Need-same-length-3 (word-there-reads.Asked, word-there-reads.Learnt, same-atoms-reads.Asked, same-atoms-reads.Learnt, through-imp-below t, through-imp.Post, through-and-below t, through-and.Post, through-all-below t, through-all.Post) (through-at t) through.Post
-through-same-length-3 t c = search needs
-
--- src/provable.rt:223:1
-through-returns-4 : (t : ℕ) → through-lts.Need-returns-4 (word-there-reads.Asked, word-there-reads.Learnt, same-atoms-reads.Asked, same-atoms-reads.Learnt, through-imp-below t, through-imp.Post, through-and-below t, through-and.Post, through-all-below t, through-all.Post) (through-at t) through.Post
-through-returns-4 t c = let x = c .before .before .before .before .before .before .before .before .before .before .before .before .args in
-    passing.by-word (x .nest) W.And (c .before .before .before .before .before .before .word-there .result) (c .before .before .before .before .before .before .before .if1 .left) (c .before .before .before .before .before .before .word-there .ensures) (c .before .before .before .before .enum-told3 .given .1) (c .before .before .through-and .ensures)
-
--- src/provable.rt:223:1
-through-same-length-4 : (t : ℕ) → through-lts.Need-same-length-4 (word-there-reads.Asked, word-there-reads.Learnt, same-atoms-reads.Asked, same-atoms-reads.Learnt, through-imp-below t, through-imp.Post, through-and-below t, through-and.Post, through-all-below t, through-all.Post) (through-at t) through.Post
-through-same-length-4 t c = search needs
-
--- src/provable.rt:223:1
-through-returns-5 : (t : ℕ) → through-lts.Need-returns-5 (word-there-reads.Asked, word-there-reads.Learnt, same-atoms-reads.Asked, same-atoms-reads.Learnt, through-imp-below t, through-imp.Post, through-and-below t, through-and.Post, through-all-below t, through-all.Post) (through-at t) through.Post
-through-returns-5 t c = let x = c .before .before .before .before .before .before .before .before .before .before .before .before .args in
-    passing.by-word (x .nest) W.All (c .before .before .before .before .before .before .word-there .result) (c .before .before .before .before .before .before .before .if1 .left) (c .before .before .before .before .before .before .word-there .ensures) (c .before .before .before .before .enum-told4 .given .1) (c .before .before .through-all .ensures)
-
--- src/provable.rt:223:1
-through-returns-6 : (t : ℕ) → through-lts.Need-returns-6 (word-there-reads.Asked, word-there-reads.Learnt, same-atoms-reads.Asked, same-atoms-reads.Learnt, through-imp-below t, through-imp.Post, through-and-below t, through-and.Post, through-all-below t, through-all.Post) (through-at t) through.Post
-unfolding rows rank
-through-returns-6 t c =
+-- src/provable.rt:231:1
+through-returns-5 : (t : ℕ) → through-lts.Need-returns-5 (parts-of-reads.Asked, parts-of-reads.Learnt, through-plain-below t, through-plain.Post, word-there-reads.Asked, word-there-reads.Learnt, through-and-below t, through-and.Post, through-each-below t, through-each.Post) (through-at t) through.Post
+unfolding rank
+through-returns-5 t c =
     let k = c .before .word-there .result in
-    passing.by-other (c .before .before .before .before .before .before .before .args .nest) k (c .before .word-there .ensures) (no-row K.Clause k (c .match .keys5) refl)
+    let others : List ℕ = 0 ∷ 1 ∷ 2 ∷ 3 ∷ 4 ∷ 6 ∷ 7 ∷ 9 ∷ 10 ∷ 11 ∷ 12 ∷ 13 ∷ 14 ∷ 15 ∷ [] in
+    filling.no-path (c .before .before .before .before .before .before .before .before .before .args .nest) k (c .before .word-there .ensures) (filling.other-word k W.And others (tag-rank k) (c .match .keys3) refl) (filling.other-word k W.All others (tag-rank k) (c .match .keys3) refl) (c .before .before .before .parts-of .ensures) (c .before .before .if2 .left)
 
--- src/provable.rt:309:45
-through-all-further-requires : (t : ℕ) → through-all-lts.Need-further-requires (further-reads.Asked, further-reads.Learnt, by-head-reads.Asked, by-head-reads.Learnt, through-with-below t, through-with.Post, through-each-below t, through-each.Post) (through-all-at t) through-all.Post
-through-all-further-requires t c κs = search needs
-
--- src/provable.rt:309:11
-through-all-by-head-requires : (t : ℕ) → through-all-lts.Need-by-head-requires (further-reads.Asked, further-reads.Learnt, by-head-reads.Asked, by-head-reads.Learnt, through-with-below t, through-with.Post, through-each-below t, through-each.Post) (through-all-at t) through-all.Post
-through-all-by-head-requires t c κs = search needs
-
--- src/provable.rt:310:27
-through-all-enum-known-i : (t : ℕ) → through-all-lts.Need-enum-known-i (further-reads.Asked, further-reads.Learnt, by-head-reads.Asked, by-head-reads.Learnt, through-with-below t, through-with.Post, through-each-below t, through-each.Post) (through-all-at t) through-all.Post
-through-all-enum-known-i t c = search needs
-
--- src/provable.rt:310:33
-through-all-through-with-requires : (t : ℕ) → through-all-lts.Need-through-with-requires (further-reads.Asked, further-reads.Learnt, by-head-reads.Asked, by-head-reads.Learnt, through-with-below t, through-with.Post, through-each-below t, through-each.Post) (through-all-at t) through-all.Post
-through-all-through-with-requires t c κs = search needs
-
--- src/provable.rt:311:61
-through-all-enum-told : (t : ℕ) → through-all-lts.Need-enum-told (further-reads.Asked, further-reads.Learnt, by-head-reads.Asked, by-head-reads.Learnt, through-with-below t, through-with.Post, through-each-below t, through-each.Post) (through-all-at t) through-all.Post
-through-all-enum-told t c = search needs
-
--- src/provable.rt:311:28
-through-all-through-each-requires : (t : ℕ) → through-all-lts.Need-through-each-requires (further-reads.Asked, further-reads.Learnt, by-head-reads.Asked, by-head-reads.Learnt, through-with-below t, through-with.Post, through-each-below t, through-each.Post) (through-all-at t) through-all.Post
-through-all-through-each-requires t c κs = search needs
-
--- src/provable.rt:297:1
-through-all-same-length : (t : ℕ) → through-all-lts.Need-same-length (further-reads.Asked, further-reads.Learnt, by-head-reads.Asked, by-head-reads.Learnt, through-with-below t, through-with.Post, through-each-below t, through-each.Post) (through-all-at t) through-all.Post
-through-all-same-length t c = search needs
-
--- src/provable.rt:297:1
-through-all-returns : (t : ℕ) → through-all-lts.Need-returns (further-reads.Asked, further-reads.Learnt, by-head-reads.Asked, by-head-reads.Learnt, through-with-below t, through-with.Post, through-each-below t, through-each.Post) (through-all-at t) through-all.Post
-through-all-returns t c = let x = c .before .before .before .before .before .before .before .before .before .before .before .before .before .before .args in
-    passing.all-forced {f = filesOf (x .rules .now) (x .goal .now) (x .terms .now)} {x = x .x} (x .nest) (c .before .before .before .before .before .before .before .before .further .ensures) (c .before .before .before .before .before .before .before .by-head .ensures) (c .before .before .before .before .before .i .given .1) (c .before .before .through-with .ensures)
-
--- src/provable.rt:297:1
-through-all-same-length-2 : (t : ℕ) → through-all-lts.Need-same-length-2 (further-reads.Asked, further-reads.Learnt, by-head-reads.Asked, by-head-reads.Learnt, through-with-below t, through-with.Post, through-each-below t, through-each.Post) (through-all-at t) through-all.Post
-through-all-same-length-2 t c = search needs
-
--- src/provable.rt:297:1
-through-all-returns-2 : (t : ℕ) → through-all-lts.Need-returns-2 (further-reads.Asked, further-reads.Learnt, by-head-reads.Asked, by-head-reads.Learnt, through-with-below t, through-with.Post, through-each-below t, through-each.Post) (through-all-at t) through-all.Post
-through-all-returns-2 t c = c .before .before .through-each .ensures
-
--- src/provable.rt:287:26
+-- src/provable.rt:480:26
 through-and-past-part-requires : (t : ℕ) → through-and-lts.Need-past-part-requires (past-part-reads.Asked, past-part-reads.Learnt, further-reads.Asked, further-reads.Learnt, through-below t, through.Post) (through-and-at t) through-and.Post
 through-and-past-part-requires t c κs = search needs
 
--- src/provable.rt:287:21
+-- src/provable.rt:480:21
 through-and-enum-known-n : (t : ℕ) → through-and-lts.Need-enum-known-n (past-part-reads.Asked, past-part-reads.Learnt, further-reads.Asked, further-reads.Learnt, through-below t, through.Post) (through-and-at t) through-and.Post
 through-and-enum-known-n t c = search needs
 
--- src/provable.rt:288:9
+-- src/provable.rt:481:9
 through-and-enum-told : (t : ℕ) → through-and-lts.Need-enum-told (past-part-reads.Asked, past-part-reads.Learnt, further-reads.Asked, further-reads.Learnt, through-below t, through.Post) (through-and-at t) through-and.Post
 through-and-enum-told t c = search needs
 
--- src/provable.rt:288:9
+-- src/provable.rt:481:9
 through-and-returns : (t : ℕ) → through-and-lts.Need-returns (past-part-reads.Asked, past-part-reads.Learnt, further-reads.Asked, further-reads.Learnt, through-below t, through.Post) (through-and-at t) through-and.Post
 through-and-returns t c = passing.and-lost (c .before .before .before .before .before .before .before .args .nest) (c .before .before .past-part .ensures) (c .enum-told .given .1)
 
--- src/provable.rt:290:45
+-- src/provable.rt:483:45
 through-and-further-requires : (t : ℕ) → through-and-lts.Need-further-requires (past-part-reads.Asked, past-part-reads.Learnt, further-reads.Asked, further-reads.Learnt, through-below t, through.Post) (through-and-at t) through-and.Post
 through-and-further-requires t c κs = search needs
 
--- src/provable.rt:290:8
+-- src/provable.rt:483:8
 through-and-through-requires : (t : ℕ) → through-and-lts.Need-through-requires (past-part-reads.Asked, past-part-reads.Learnt, further-reads.Asked, further-reads.Learnt, through-below t, through.Post) (through-and-at t) through-and.Post
 through-and-through-requires t c κs = search needs
 
--- src/provable.rt:291:9
+-- src/provable.rt:484:9
 through-and-same-length : (t : ℕ) → through-and-lts.Need-same-length (past-part-reads.Asked, past-part-reads.Learnt, further-reads.Asked, further-reads.Learnt, through-below t, through.Post) (through-and-at t) through-and.Post
 through-and-same-length t c = search needs
 
--- src/provable.rt:291:9
+-- src/provable.rt:484:9
 through-and-returns-2 : (t : ℕ) → through-and-lts.Need-returns-2 (past-part-reads.Asked, past-part-reads.Learnt, further-reads.Asked, further-reads.Learnt, through-below t, through.Post) (through-and-at t) through-and.Post
 through-and-returns-2 t c = passing.and-first (c .before .before .before .before .before .before .before .before .before .before .before .before .before .before .args .nest) (c .before .before .before .before .further .ensures) (c .before .before .before .through .ensures) (c .if1 .taken)
 
--- src/provable.rt:293:42
+-- src/provable.rt:486:42
 through-and-further-requires-2 : (t : ℕ) → through-and-lts.Need-further-requires-2 (past-part-reads.Asked, past-part-reads.Learnt, further-reads.Asked, further-reads.Learnt, through-below t, through.Post) (through-and-at t) through-and.Post
 through-and-further-requires-2 t c κs = search needs
 
--- src/provable.rt:293:5
+-- src/provable.rt:486:5
 through-and-through-requires-2 : (t : ℕ) → through-and-lts.Need-through-requires-2 (past-part-reads.Asked, past-part-reads.Learnt, further-reads.Asked, further-reads.Learnt, through-below t, through.Post) (through-and-at t) through-and.Post
 through-and-through-requires-2 t c κs = search needs
 
--- src/provable.rt:275:1
+-- src/provable.rt:468:1
 through-and-same-length-2 : (t : ℕ) → through-and-lts.Need-same-length-2 (past-part-reads.Asked, past-part-reads.Learnt, further-reads.Asked, further-reads.Learnt, through-below t, through.Post) (through-and-at t) through-and.Post
 through-and-same-length-2 t c = search needs
 
--- src/provable.rt:275:1
+-- src/provable.rt:468:1
 through-and-returns-3 : (t : ℕ) → through-and-lts.Need-returns-3 (past-part-reads.Asked, past-part-reads.Learnt, further-reads.Asked, further-reads.Learnt, through-below t, through.Post) (through-and-at t) through-and.Post
 through-and-returns-3 t c = passing.and-second (c .before .before .before .before .before .before .before .before .before .before .before .before .before .before .before .before .before .before .before .args .nest) (c .before .before .before .before .before .before .before .before .before .further .ensures) (c .before .before .before .further2 .ensures) (c .before .before .before .before .before .before .before .before .before .before .before .before .before .before .past-part .ensures) (c .before .before .before .before .before .before .before .before .before .before .before .before .n .given .1) (c .before .before .before .before .before .before .before .before .through .ensures) (c .before .before .before .before .before .if1 .left) (c .before .before .before .before .before .before .before .before .through .kept .1 .1 .1 .0) (c .before .before .through2 .ensures)
 
@@ -896,191 +1235,197 @@ through-each-Inv-loop rules goal terms room₀ w x nest left n i₀ room i =
 abbrev through-each-μ-loop : through-each-lts.MeasureT-loop
 through-each-μ-loop rules goal terms room₀ w x nest left n i₀ room i = n - i
 
--- src/provable.rt:328:9
+-- src/provable.rt:502:9
 through-each-candidates-requires : (t : ℕ) → through-each-lts.Need-candidates-requires (candidates-reads.Asked, candidates-reads.Learnt, through-with-below t, through-with.Post) (through-each-at t) through-each.Post through-each-Inv-loop through-each-μ-loop
 through-each-candidates-requires t c κs = search needs
 
--- src/provable.rt:330:5
+-- src/provable.rt:504:5
 through-each-loop-holds : (t : ℕ) → through-each-lts.Need-loop-holds (candidates-reads.Asked, candidates-reads.Learnt, through-with-below t, through-with.Post) (through-each-at t) through-each.Post through-each-Inv-loop through-each-μ-loop
 through-each-loop-holds t c = let x = c .before .before .before .before .before .before .args in
     (omega arith, (refl, passing.all-start (x .nest)))
 
--- src/provable.rt:331:12
+-- src/provable.rt:505:12
 through-each-through-with-requires : (t : ℕ) → through-each-lts.Need-through-with-requires (candidates-reads.Asked, candidates-reads.Learnt, through-with-below t, through-with.Post) (through-each-at t) through-each.Post through-each-Inv-loop through-each-μ-loop
 through-each-through-with-requires t c κs = search needs
 
--- src/provable.rt:332:13
+-- src/provable.rt:506:13
 through-each-same-length : (t : ℕ) → through-each-lts.Need-same-length (candidates-reads.Asked, candidates-reads.Learnt, through-with-below t, through-with.Post) (through-each-at t) through-each.Post through-each-Inv-loop through-each-μ-loop
 through-each-same-length t c = c .before .before .before .through-with .kept .1 .1 .1 .0 ∙ c .before .before .before .before .before .before .loop .inv .1 .0
 
--- src/provable.rt:332:13
+-- src/provable.rt:506:13
 through-each-returns : (t : ℕ) → through-each-lts.Need-returns (candidates-reads.Asked, candidates-reads.Learnt, through-with-below t, through-with.Post) (through-each-at t) through-each.Post through-each-Inv-loop through-each-μ-loop
 through-each-returns t c = let x = c .before .before .before .before .before .before .before .before .before .before .before .before .before .args in
     let l = c .before .before .before .before .before .before .loop in
     passing.all-hit (x .nest) (l .i) (c .before .before .before .before .before .before .before .candidates .result) (c .before .before .before .before .before .loop-test .taken) (c .before .before .before .before .before .before .before .candidates .ensures) (l .inv .1 .1) (l .inv .1 .0) (c .before .before .before .through-with .ensures) (c .if1 .taken)
 
--- src/provable.rt:334:9
+-- src/provable.rt:508:9
 through-each-add-i : (t : ℕ) → through-each-lts.Need-add-i (candidates-reads.Asked, candidates-reads.Learnt, through-with-below t, through-with.Post) (through-each-at t) through-each.Post through-each-Inv-loop through-each-μ-loop
 through-each-add-i t c = search needs
 
--- src/provable.rt:330:5
+-- src/provable.rt:504:5
 through-each-loop-less : (t : ℕ) → through-each-lts.Need-loop-less (candidates-reads.Asked, candidates-reads.Learnt, through-with-below t, through-with.Post) (through-each-at t) through-each.Post through-each-Inv-loop through-each-μ-loop
 through-each-loop-less t c = search needs
 
--- src/provable.rt:330:5
+-- src/provable.rt:504:5
 through-each-loop-again : (t : ℕ) → through-each-lts.Need-loop-again (candidates-reads.Asked, candidates-reads.Learnt, through-with-below t, through-with.Post) (through-each-at t) through-each.Post through-each-Inv-loop through-each-μ-loop
 through-each-loop-again t c = let x = c .before .before .before .before .before .before .before .before .before .before .before .before .before .args in
     let l = c .before .before .before .before .before .before .loop in
     (omega arith, (c .before .before .before .through-with .kept .1 .1 .1 .0 ∙ l .inv .1 .0, passing.all-miss (x .nest) (l .i) (c .before .before .before .before .before .before .before .candidates .result) (c .before .before .before .before .before .loop-test .taken) (c .before .before .before .before .before .before .before .candidates .ensures) (l .inv .1 .1) (l .inv .1 .0) (c .before .before .before .through-with .ensures) (c .if1 .left)))
 
--- src/provable.rt:316:1
+-- src/provable.rt:490:1
 through-each-same-length-2 : (t : ℕ) → through-each-lts.Need-same-length-2 (candidates-reads.Asked, candidates-reads.Learnt, through-with-below t, through-with.Post) (through-each-at t) through-each.Post through-each-Inv-loop through-each-μ-loop
 through-each-same-length-2 t c = c .before .loop .inv .1 .0
 
--- src/provable.rt:316:1
+-- src/provable.rt:490:1
 through-each-returns-2 : (t : ℕ) → through-each-lts.Need-returns-2 (candidates-reads.Asked, candidates-reads.Learnt, through-with-below t, through-with.Post) (through-each-at t) through-each.Post through-each-Inv-loop through-each-μ-loop
 through-each-returns-2 t c = let x = c .before .before .before .before .before .before .before .before .args in
     let l = c .before .loop in
     passing.all-done (x .nest) (l .i) (c .before .before .candidates .result) (c .loop-test .left) (c .before .before .candidates .ensures) (l .inv .1 .1)
 
--- src/provable.rt:259:26
-through-imp-past-part-requires : (t : ℕ) → through-imp-lts.Need-past-part-requires (past-part-reads.Asked, past-part-reads.Learnt, further-reads.Asked, further-reads.Learnt, same-atoms-reads.Asked, same-atoms-reads.Learnt, plus-reads.Asked, plus-reads.Learnt, prove-goal-below t, prove-goal.Post) (through-imp-at t) through-imp.Post
-through-imp-past-part-requires t c κs = search needs
+-- src/provable.rt:269:5
+through-plain-unset-all-requires : (t : ℕ) → through-plain-lts.Need-unset-all-requires (unset-all-reads.Asked, unset-all-reads.Learnt, may-be-reads.Asked, may-be-reads.Learnt, settle-reads.Asked, settle-reads.Learnt, look-body-below t, look-body.Post, fill-below t, fill.Post) (through-plain-at t) through-plain.Post
+through-plain-unset-all-requires t c κs = search needs
 
--- src/provable.rt:259:21
-through-imp-enum-known-n : (t : ℕ) → through-imp-lts.Need-enum-known-n (past-part-reads.Asked, past-part-reads.Learnt, further-reads.Asked, further-reads.Learnt, same-atoms-reads.Asked, same-atoms-reads.Learnt, plus-reads.Asked, plus-reads.Learnt, prove-goal-below t, prove-goal.Post) (through-imp-at t) through-imp.Post
-through-imp-enum-known-n t c = search needs
+-- src/provable.rt:270:9
+through-plain-may-be-requires : (t : ℕ) → through-plain-lts.Need-may-be-requires (unset-all-reads.Asked, unset-all-reads.Learnt, may-be-reads.Asked, may-be-reads.Learnt, settle-reads.Asked, settle-reads.Learnt, look-body-below t, look-body.Post, fill-below t, fill.Post) (through-plain-at t) through-plain.Post
+through-plain-may-be-requires t c κs = search needs
 
--- src/provable.rt:260:9
-through-imp-enum-told : (t : ℕ) → through-imp-lts.Need-enum-told (past-part-reads.Asked, past-part-reads.Learnt, further-reads.Asked, further-reads.Learnt, same-atoms-reads.Asked, same-atoms-reads.Learnt, plus-reads.Asked, plus-reads.Learnt, prove-goal-below t, prove-goal.Post) (through-imp-at t) through-imp.Post
-through-imp-enum-told t c = search needs
+-- src/provable.rt:271:9
+through-plain-same-length : (t : ℕ) → through-plain-lts.Need-same-length (unset-all-reads.Asked, unset-all-reads.Learnt, may-be-reads.Asked, may-be-reads.Learnt, settle-reads.Asked, settle-reads.Learnt, look-body-below t, look-body.Post, fill-below t, fill.Post) (through-plain-at t) through-plain.Post
+through-plain-same-length t c = c .before .before .before .before .before .unset-all .kept .0
 
--- src/provable.rt:260:9
-through-imp-returns : (t : ℕ) → through-imp-lts.Need-returns (past-part-reads.Asked, past-part-reads.Learnt, further-reads.Asked, further-reads.Learnt, same-atoms-reads.Asked, same-atoms-reads.Learnt, plus-reads.Asked, plus-reads.Learnt, prove-goal-below t, prove-goal.Post) (through-imp-at t) through-imp.Post
-through-imp-returns t c = λ nest. passing.imp-lost nest (c .before .before .past-part .ensures) (c .enum-told .given .1)
+-- src/provable.rt:271:9
+through-plain-returns : (t : ℕ) → through-plain-lts.Need-returns (unset-all-reads.Asked, unset-all-reads.Learnt, may-be-reads.Asked, may-be-reads.Learnt, settle-reads.Asked, settle-reads.Learnt, look-body-below t, look-body.Post, fill-below t, fill.Post) (through-plain-at t) through-plain.Post
+through-plain-returns t c = filling.plain-head (c .before .before .before .before .before .unset-all .ensures) (c .before .may-be .ensures) (not-true (c .before .may-be .result) (c .if1 .taken))
 
--- src/provable.rt:262:46
-through-imp-further-requires : (t : ℕ) → through-imp-lts.Need-further-requires (past-part-reads.Asked, past-part-reads.Learnt, further-reads.Asked, further-reads.Learnt, same-atoms-reads.Asked, same-atoms-reads.Learnt, plus-reads.Asked, plus-reads.Learnt, prove-goal-below t, prove-goal.Post) (through-imp-at t) through-imp.Post
-through-imp-further-requires t c κs = search needs
+-- src/provable.rt:273:9
+through-plain-settle-requires : (t : ℕ) → through-plain-lts.Need-settle-requires (unset-all-reads.Asked, unset-all-reads.Learnt, may-be-reads.Asked, may-be-reads.Learnt, settle-reads.Asked, settle-reads.Learnt, look-body-below t, look-body.Post, fill-below t, fill.Post) (through-plain-at t) through-plain.Post
+through-plain-settle-requires t c κs = search needs
 
--- src/provable.rt:262:9
-through-imp-same-atoms-requires : (t : ℕ) → through-imp-lts.Need-same-atoms-requires (past-part-reads.Asked, past-part-reads.Learnt, further-reads.Asked, further-reads.Learnt, same-atoms-reads.Asked, same-atoms-reads.Learnt, plus-reads.Asked, plus-reads.Learnt, prove-goal-below t, prove-goal.Post) (through-imp-at t) through-imp.Post
-through-imp-same-atoms-requires t c κs = search needs
+-- src/provable.rt:274:9
+through-plain-same-length-2 : (t : ℕ) → through-plain-lts.Need-same-length-2 (unset-all-reads.Asked, unset-all-reads.Learnt, may-be-reads.Asked, may-be-reads.Learnt, settle-reads.Asked, settle-reads.Learnt, look-body-below t, look-body.Post, fill-below t, fill.Post) (through-plain-at t) through-plain.Post
+through-plain-same-length-2 t c = c .before .before .before .settle .kept .1 .1 .1 .0 ∙ c .before .before .before .before .before .before .before .before .before .before .unset-all .kept .0
 
--- src/provable.rt:263:9
-through-imp-same-length : (t : ℕ) → through-imp-lts.Need-same-length (past-part-reads.Asked, past-part-reads.Learnt, further-reads.Asked, further-reads.Learnt, same-atoms-reads.Asked, same-atoms-reads.Learnt, plus-reads.Asked, plus-reads.Learnt, prove-goal-below t, prove-goal.Post) (through-imp-at t) through-imp.Post
-through-imp-same-length t c = search needs
+-- src/provable.rt:274:9
+through-plain-returns-2 : (t : ℕ) → through-plain-lts.Need-returns-2 (unset-all-reads.Asked, unset-all-reads.Learnt, may-be-reads.Asked, may-be-reads.Learnt, settle-reads.Asked, settle-reads.Learnt, look-body-below t, look-body.Post, fill-below t, fill.Post) (through-plain-at t) through-plain.Post
+through-plain-returns-2 t c = filling.plain-settled (c .before .before .before .before .before .before .before .before .before .before .unset-all .ensures) (c .before .before .before .settle .ensures) (not-true (c .before .before .before .settle .result) (c .if2 .taken))
 
--- src/provable.rt:263:9
-through-imp-returns-2 : (t : ℕ) → through-imp-lts.Need-returns-2 (past-part-reads.Asked, past-part-reads.Learnt, further-reads.Asked, further-reads.Learnt, same-atoms-reads.Asked, same-atoms-reads.Learnt, plus-reads.Asked, plus-reads.Learnt, prove-goal-below t, prove-goal.Post) (through-imp-at t) through-imp.Post
-through-imp-returns-2 t c = λ nest. passing.imp-other nest (c .before .before .before .before .before .before .before .past-part .ensures) (c .before .before .before .before .before .n .given .1) (c .before .before .further .ensures) (c .before .same-atoms .ensures) (not-true (c .before .same-atoms .result) (c .if1 .taken))
+-- src/provable.rt:276:9
+through-plain-look-body-requires : (t : ℕ) → through-plain-lts.Need-look-body-requires (unset-all-reads.Asked, unset-all-reads.Learnt, may-be-reads.Asked, may-be-reads.Learnt, settle-reads.Asked, settle-reads.Learnt, look-body-below t, look-body.Post, fill-below t, fill.Post) (through-plain-at t) through-plain.Post
+through-plain-look-body-requires t c κs = (omega (arith, c .before .before .before .before .before .before .before .before .before .before .before .before .before .before .before .before .before .pre .0), tt)
 
--- src/provable.rt:266:15
-through-imp-further-requires-2 : (t : ℕ) → through-imp-lts.Need-further-requires-2 (past-part-reads.Asked, past-part-reads.Learnt, further-reads.Asked, further-reads.Learnt, same-atoms-reads.Asked, same-atoms-reads.Learnt, plus-reads.Asked, plus-reads.Learnt, prove-goal-below t, prove-goal.Post) (through-imp-at t) through-imp.Post
-through-imp-further-requires-2 t c κs = search needs
+-- src/provable.rt:277:9
+through-plain-same-length-3 : (t : ℕ) → through-plain-lts.Need-same-length-3 (unset-all-reads.Asked, unset-all-reads.Learnt, may-be-reads.Asked, may-be-reads.Learnt, settle-reads.Asked, settle-reads.Learnt, look-body-below t, look-body.Post, fill-below t, fill.Post) (through-plain-at t) through-plain.Post
+through-plain-same-length-3 t c = c .before .before .before .look-body .kept .1 .1 .1 .0 ∙ (c .before .before .before .before .before .before .before .before .settle .kept .1 .1 .1 .0 ∙ c .before .before .before .before .before .before .before .before .before .before .before .before .before .before .before .unset-all .kept .0)
 
--- src/provable.rt:269:14
-through-imp-plus-requires : (t : ℕ) → through-imp-lts.Need-plus-requires (past-part-reads.Asked, past-part-reads.Learnt, further-reads.Asked, further-reads.Learnt, same-atoms-reads.Asked, same-atoms-reads.Learnt, plus-reads.Asked, plus-reads.Learnt, prove-goal-below t, prove-goal.Post) (through-imp-at t) through-imp.Post
-through-imp-plus-requires t c κs = search needs
+-- src/provable.rt:277:9
+through-plain-returns-3 : (t : ℕ) → through-plain-lts.Need-returns-3 (unset-all-reads.Asked, unset-all-reads.Learnt, may-be-reads.Asked, may-be-reads.Learnt, settle-reads.Asked, settle-reads.Learnt, look-body-below t, look-body.Post, fill-below t, fill.Post) (through-plain-at t) through-plain.Post
+through-plain-returns-3 t c = filling.plain-body (c .before .before .before .before .before .before .before .before .before .before .before .before .before .before .before .unset-all .ensures) (c .before .before .before .before .before .before .before .before .settle .ensures) (not-false (c .before .before .before .before .before .before .before .before .settle .result) (c .before .before .before .before .before .if2 .left)) (c .before .before .before .look-body .ensures) (not-true (c .before .before .before .look-body .result) (c .if3 .taken))
 
--- src/provable.rt:271:5
-through-imp-prove-goal-requires : (t : ℕ) → through-imp-lts.Need-prove-goal-requires (past-part-reads.Asked, past-part-reads.Learnt, further-reads.Asked, further-reads.Learnt, same-atoms-reads.Asked, same-atoms-reads.Learnt, plus-reads.Asked, plus-reads.Learnt, prove-goal-below t, prove-goal.Post) (through-imp-at t) through-imp.Post
-through-imp-prove-goal-requires t c κs = search needs
+-- src/provable.rt:279:5
+through-plain-fill-requires : (t : ℕ) → through-plain-lts.Need-fill-requires (unset-all-reads.Asked, unset-all-reads.Learnt, may-be-reads.Asked, may-be-reads.Learnt, settle-reads.Asked, settle-reads.Learnt, look-body-below t, look-body.Post, fill-below t, fill.Post) (through-plain-at t) through-plain.Post
+through-plain-fill-requires t c κs = (omega (arith, c .before .before .before .before .before .before .before .before .before .before .before .before .before .before .before .before .before .before .before .before .before .before .pre .0), tt)
 
--- src/provable.rt:248:1
-through-imp-same-length-2 : (t : ℕ) → through-imp-lts.Need-same-length-2 (past-part-reads.Asked, past-part-reads.Learnt, further-reads.Asked, further-reads.Learnt, same-atoms-reads.Asked, same-atoms-reads.Learnt, plus-reads.Asked, plus-reads.Learnt, prove-goal-below t, prove-goal.Post) (through-imp-at t) through-imp.Post
-through-imp-same-length-2 t c = search needs
+-- src/provable.rt:258:1
+through-plain-same-length-4 : (t : ℕ) → through-plain-lts.Need-same-length-4 (unset-all-reads.Asked, unset-all-reads.Learnt, may-be-reads.Asked, may-be-reads.Learnt, settle-reads.Asked, settle-reads.Learnt, look-body-below t, look-body.Post, fill-below t, fill.Post) (through-plain-at t) through-plain.Post
+through-plain-same-length-4 t c = c .before .before .fill .kept .1 .1 .1 .0 ∙ (c .before .before .before .before .before .before .before .look-body .kept .1 .1 .1 .0 ∙ (c .before .before .before .before .before .before .before .before .before .before .before .before .settle .kept .1 .1 .1 .0 ∙ c .before .before .before .before .before .before .before .before .before .before .before .before .before .before .before .before .before .before .before .unset-all .kept .0))
 
--- src/provable.rt:248:1
-through-imp-returns-3 : (t : ℕ) → through-imp-lts.Need-returns-3 (past-part-reads.Asked, past-part-reads.Learnt, further-reads.Asked, further-reads.Learnt, same-atoms-reads.Asked, same-atoms-reads.Learnt, plus-reads.Asked, plus-reads.Learnt, prove-goal-below t, prove-goal.Post) (through-imp-at t) through-imp.Post
-through-imp-returns-3 t c = λ nest. let x = c .before .before .before .before .before .before .before .before .before .before .before .before .before .before .before .before .before .before .args in
-    passing.imp-body nest (c .before .before .before .before .before .before .before .before .before .before .before .before .before .past-part .ensures) (c .before .before .before .before .before .before .before .before .before .before .before .n .given .1) (c .before .before .before .before .before .before .before .before .further .ensures) (c .before .before .before .before .before .before .before .same-atoms .ensures) (not-false (c .before .before .before .before .before .before .before .same-atoms .result) (c .before .before .before .before .before .before .if1 .left)) (passing.body-is (x .w) (x .x) 6 (c .before .before .before .before .before .further2 .ensures) (c .before .before .before .before .plus .ensures)) (c .before .before .prove-goal .ensures)
+-- src/provable.rt:258:1
+through-plain-returns-4 : (t : ℕ) → through-plain-lts.Need-returns-4 (unset-all-reads.Asked, unset-all-reads.Learnt, may-be-reads.Asked, may-be-reads.Learnt, settle-reads.Asked, settle-reads.Learnt, look-body-below t, look-body.Post, fill-below t, fill.Post) (through-plain-at t) through-plain.Post
+through-plain-returns-4 t c = filling.plain-goes (c .before .before .before .before .before .before .before .before .before .before .before .before .before .before .before .before .before .before .before .unset-all .ensures) (c .before .before .before .before .before .before .before .before .before .before .before .before .settle .ensures) (not-false (c .before .before .before .before .before .before .before .before .before .before .before .before .settle .result) (c .before .before .before .before .before .before .before .before .before .if2 .left)) (c .before .before .before .before .before .before .before .look-body .ensures) (not-false (c .before .before .before .before .before .before .before .look-body .result) (c .before .before .before .before .if3 .left)) (c .before .before .before .before .before .before .before .look-body .kept .1 .1 .1 .0) (c .before .before .fill .ensures)
 
--- src/provable.rt:353:9
+-- src/provable.rt:527:9
 through-with-may-use-requires : (t : ℕ) → through-with-lts.Need-may-use-requires (may-use-reads.Asked, may-use-reads.Learnt, plus-reads.Asked, plus-reads.Learnt, push-reads.Asked, push-reads.Learnt, deeper-reads.Asked, deeper-reads.Learnt, through-below t, through.Post) (through-with-at t) through-with.Post
 through-with-may-use-requires t c κs = search needs
 
--- src/provable.rt:354:9
+-- src/provable.rt:528:9
 through-with-same-length : (t : ℕ) → through-with-lts.Need-same-length (may-use-reads.Asked, may-use-reads.Learnt, plus-reads.Asked, plus-reads.Learnt, push-reads.Asked, push-reads.Learnt, deeper-reads.Asked, deeper-reads.Learnt, through-below t, through.Post) (through-with-at t) through-with.Post
 through-with-same-length t c = search needs
 
--- src/provable.rt:354:9
+-- src/provable.rt:528:9
 through-with-returns : (t : ℕ) → through-with-lts.Need-returns (may-use-reads.Asked, may-use-reads.Learnt, plus-reads.Asked, plus-reads.Learnt, push-reads.Asked, push-reads.Learnt, deeper-reads.Asked, deeper-reads.Learnt, through-below t, through.Post) (through-with-at t) through-with.Post
 through-with-returns t c = passing.with-barred (c .before .before .before .before .before .before .before .args .i) (c .before .before .before .before .before .before .before .args .nest) (c .before .may-use .result) (c .before .may-use .ensures) (not-true (c .before .may-use .result) (c .if1 .taken))
 
--- src/provable.rt:356:16
+-- src/provable.rt:530:16
 through-with-plus-requires : (t : ℕ) → through-with-lts.Need-plus-requires (may-use-reads.Asked, may-use-reads.Learnt, plus-reads.Asked, plus-reads.Learnt, push-reads.Asked, push-reads.Learnt, deeper-reads.Asked, deeper-reads.Learnt, through-below t, through.Post) (through-with-at t) through-with.Post
 through-with-plus-requires t c κs = search needs
 
--- src/provable.rt:356:5
+-- src/provable.rt:530:5
 through-with-push-requires : (t : ℕ) → through-with-lts.Need-push-requires (may-use-reads.Asked, may-use-reads.Learnt, plus-reads.Asked, plus-reads.Learnt, push-reads.Asked, push-reads.Learnt, deeper-reads.Asked, deeper-reads.Learnt, through-below t, through.Post) (through-with-at t) through-with.Post
 through-with-push-requires t c κs = search needs
 
--- src/provable.rt:357:42
+-- src/provable.rt:531:42
 through-with-deeper-requires : (t : ℕ) → through-with-lts.Need-deeper-requires (may-use-reads.Asked, may-use-reads.Learnt, plus-reads.Asked, plus-reads.Learnt, push-reads.Asked, push-reads.Learnt, deeper-reads.Asked, deeper-reads.Learnt, through-below t, through.Post) (through-with-at t) through-with.Post
 through-with-deeper-requires t c κs = search needs
 
--- src/provable.rt:357:5
+-- src/provable.rt:531:5
 through-with-through-requires : (t : ℕ) → through-with-lts.Need-through-requires (may-use-reads.Asked, may-use-reads.Learnt, plus-reads.Asked, plus-reads.Learnt, push-reads.Asked, push-reads.Learnt, deeper-reads.Asked, deeper-reads.Learnt, through-below t, through.Post) (through-with-at t) through-with.Post
 through-with-through-requires t c κs = search needs
 
--- src/provable.rt:340:1
+-- src/provable.rt:514:1
 through-with-same-length-2 : (t : ℕ) → through-with-lts.Need-same-length-2 (may-use-reads.Asked, may-use-reads.Learnt, plus-reads.Asked, plus-reads.Learnt, push-reads.Asked, push-reads.Learnt, deeper-reads.Asked, deeper-reads.Learnt, through-below t, through.Post) (through-with-at t) through-with.Post
 through-with-same-length-2 t c = search needs
 
--- src/provable.rt:340:1
+-- src/provable.rt:514:1
 through-with-returns-2 : (t : ℕ) → through-with-lts.Need-returns-2 (may-use-reads.Asked, may-use-reads.Learnt, plus-reads.Asked, plus-reads.Learnt, push-reads.Asked, push-reads.Learnt, deeper-reads.Asked, deeper-reads.Learnt, through-below t, through.Post) (through-with-at t) through-with.Post
 through-with-returns-2 t c = let x = c .before .before .before .before .before .before .before .before .before .before .before .before .before .before .before .before .before .args in
     passing.with-goes (x .i) (x .nest) (c .before .before .before .before .before .before .before .before .before .before .before .may-use .result) (c .before .before .before .before .before .before .before .before .before .before .before .may-use .ensures) (not-false (c .before .before .before .before .before .before .before .before .before .before .before .may-use .result) (c .before .before .before .before .before .before .before .before .before .before .if1 .left)) (c .before .before .before .deeper .ensures) (passing.passing-from (c .before .before .before .before .before .before .before .push .ensures ∙ ap (λ (j : ℕ). set (x .room .now) j (held (bindingWord (Candidate (x .i))))) (c .before .before .before .before .before .before .before .before .plus .ensures)) (c .before .before .through .ensures))
 
--- src/provable.rt:213:29
+-- src/provable.rt:221:29
 use-clause-open-clause-requires : (t : ℕ) → use-clause-lts.Need-open-clause-requires (open-clause-reads.Asked, open-clause-reads.Learnt, has-head-reads.Asked, has-head-reads.Learnt, through-below t, through.Post) (use-clause-at t) use-clause.Post
 use-clause-open-clause-requires t c κs = search needs
 
--- src/provable.rt:213:24
+-- src/provable.rt:221:24
 use-clause-enum-known-x : (t : ℕ) → use-clause-lts.Need-enum-known-x (open-clause-reads.Asked, open-clause-reads.Learnt, has-head-reads.Asked, has-head-reads.Learnt, through-below t, through.Post) (use-clause-at t) use-clause.Post
 use-clause-enum-known-x t c = search needs
 
--- src/provable.rt:214:9
+-- src/provable.rt:222:9
 use-clause-enum-told : (t : ℕ) → use-clause-lts.Need-enum-told (open-clause-reads.Asked, open-clause-reads.Learnt, has-head-reads.Asked, has-head-reads.Learnt, through-below t, through.Post) (use-clause-at t) use-clause.Post
 use-clause-enum-told t c = search needs
 
--- src/provable.rt:214:9
+-- src/provable.rt:222:9
 use-clause-same-length : (t : ℕ) → use-clause-lts.Need-same-length (open-clause-reads.Asked, open-clause-reads.Learnt, has-head-reads.Asked, has-head-reads.Learnt, through-below t, through.Post) (use-clause-at t) use-clause.Post
 use-clause-same-length t c = search needs
 
--- src/provable.rt:214:9
+-- src/provable.rt:222:9
 use-clause-returns : (t : ℕ) → use-clause-lts.Need-returns (open-clause-reads.Asked, open-clause-reads.Learnt, has-head-reads.Asked, has-head-reads.Learnt, through-below t, through.Post) (use-clause-at t) use-clause.Post
 use-clause-returns t c = passing.by-none (c .before .before .before .before .before .before .before .before .before .before .args .k) (c .before .before .before .before .open-clause .ensures) (c .enum-told .given .1)
 
--- src/provable.rt:216:9
+-- src/provable.rt:224:9
 use-clause-has-head-requires : (t : ℕ) → use-clause-lts.Need-has-head-requires (open-clause-reads.Asked, open-clause-reads.Learnt, has-head-reads.Asked, has-head-reads.Learnt, through-below t, through.Post) (use-clause-at t) use-clause.Post
 use-clause-has-head-requires t c κs = search needs
 
--- src/provable.rt:217:9
+-- src/provable.rt:225:9
 use-clause-same-length-2 : (t : ℕ) → use-clause-lts.Need-same-length-2 (open-clause-reads.Asked, open-clause-reads.Learnt, has-head-reads.Asked, has-head-reads.Learnt, through-below t, through.Post) (use-clause-at t) use-clause.Post
 use-clause-same-length-2 t c = search needs
 
--- src/provable.rt:217:9
+-- src/provable.rt:225:9
 use-clause-returns-2 : (t : ℕ) → use-clause-lts.Need-returns-2 (open-clause-reads.Asked, open-clause-reads.Learnt, has-head-reads.Asked, has-head-reads.Learnt, through-below t, through.Post) (use-clause-at t) use-clause.Post
 use-clause-returns-2 t c = passing.by-headless (c .before .before .before .before .before .before .before .before .before .before .before .before .before .args .k) (c .before .before .before .before .before .before .before .open-clause .ensures) (c .before .before .before .x .given .1) (c .before .has-head .ensures) (not-true (c .before .has-head .result) (c .if1 .taken))
 
--- src/provable.rt:219:5
+-- src/provable.rt:227:5
 use-clause-through-requires : (t : ℕ) → use-clause-lts.Need-through-requires (open-clause-reads.Asked, open-clause-reads.Learnt, has-head-reads.Asked, has-head-reads.Learnt, through-below t, through.Post) (use-clause-at t) use-clause.Post
 use-clause-through-requires t c κs = search needs
 
--- src/provable.rt:202:1
+-- src/provable.rt:210:1
 use-clause-same-length-3 : (t : ℕ) → use-clause-lts.Need-same-length-3 (open-clause-reads.Asked, open-clause-reads.Learnt, has-head-reads.Asked, has-head-reads.Learnt, through-below t, through.Post) (use-clause-at t) use-clause.Post
 use-clause-same-length-3 t c = search needs
 
--- src/provable.rt:202:1
+-- src/provable.rt:210:1
 use-clause-returns-3 : (t : ℕ) → use-clause-lts.Need-returns-3 (open-clause-reads.Asked, open-clause-reads.Learnt, has-head-reads.Asked, has-head-reads.Learnt, through-below t, through.Post) (use-clause-at t) use-clause.Post
 use-clause-returns-3 t c = passing.by-clause (c .before .before .before .before .before .before .before .before .before .before .before .before .before .before .before .before .before .args .k) (c .before .before .before .before .before .before .before .before .before .before .before .open-clause .ensures) (c .before .before .before .before .before .before .before .x .given .1) (c .before .before .through .ensures)
 
-pub +prove-all+prove-atom+prove-both+prove-either+prove-goal+prove-some+prove-under+prove-with+through+through-all+through-and+through-each+through-imp+through-with+use-clause-spec :
+pub +fill+fill-each+fill-with+look+look-body+look-both+look-one+prove-all+prove-atom+prove-both+prove-either+prove-goal+prove-some+prove-under+prove-with+through+through-and+through-each+through-plain+through-with+use-clause-spec :
     {M : Type 1} → statement M
-+prove-all+prove-atom+prove-both+prove-either+prove-goal+prove-some+prove-under+prove-with+through+through-all+through-and+through-each+through-imp+through-with+use-clause-spec =
++fill+fill-each+fill-with+look+look-body+look-both+look-one+prove-all+prove-atom+prove-both+prove-either+prove-goal+prove-some+prove-under+prove-with+through+through-and+through-each+through-plain+through-with+use-clause-spec =
     close
+    μ-fill
+    μ-fill-each
+    μ-fill-with
+    μ-look
+    μ-look-body
+    μ-look-both
+    μ-look-one
     μ-prove-all
     μ-prove-atom
     μ-prove-both
@@ -1090,12 +1435,162 @@ pub +prove-all+prove-atom+prove-both+prove-either+prove-goal+prove-some+prove-un
     μ-prove-under
     μ-prove-with
     μ-through
-    μ-through-all
     μ-through-and
     μ-through-each
-    μ-through-imp
+    μ-through-plain
     μ-through-with
     μ-use-clause
+    (λ t. fill-lts.spec (
+      same-atoms-reads.Asked,
+      same-atoms-reads.Learnt,
+      is-open-reads.Asked,
+      is-open-reads.Learnt,
+      fill-each-below t,
+      fill-each.Post,
+      fill-below t,
+      fill.Post,
+    )
+    (fill-at t)
+    fill.Post
+    (fill-same-atoms-requires t)
+    (fill-same-length t)
+    (fill-returns t)
+    (fill-sub-is-open t)
+    (fill-is-open-requires t)
+    (fill-sub-fill-each t)
+    (fill-fill-each-requires t)
+    (fill-same-length-2 t)
+    (fill-returns-2 t)
+    (fill-sub-fill t)
+    (fill-fill-requires t)
+    (fill-same-length-3 t)
+    (fill-returns-3 t))
+    (λ t. fill-each-lts.spec (
+      candidates-reads.Asked,
+      candidates-reads.Learnt,
+      fill-with-below t,
+      fill-with.Post,
+      word-of-reads.Asked,
+      word-of-reads.Learnt,
+      push-reads.Asked,
+      push-reads.Learnt,
+    )
+    (fill-each-at t)
+    fill-each.Post
+    fill-each-Inv-loop
+    fill-each-μ-loop
+    (fill-each-candidates-requires t)
+    (fill-each-loop-holds t)
+    (fill-each-fill-with-requires t)
+    (fill-each-same-length t)
+    (fill-each-returns t)
+    (fill-each-add-i t)
+    (fill-each-loop-less t)
+    (fill-each-loop-again t)
+    (fill-each-word-of-requires t)
+    (fill-each-push-requires t)
+    (fill-each-same-length-2 t)
+    (fill-each-returns-2 t))
+    (λ t. fill-with-lts.spec (
+      may-use-reads.Asked,
+      may-use-reads.Learnt,
+      word-of-reads.Asked,
+      word-of-reads.Learnt,
+      push-reads.Asked,
+      push-reads.Learnt,
+      may-be-reads.Asked,
+      may-be-reads.Learnt,
+      look-body-below t,
+      look-body.Post,
+      fill-below t,
+      fill.Post,
+    )
+    (fill-with-at t)
+    fill-with.Post
+    (fill-with-may-use-requires t)
+    (fill-with-same-length t)
+    (fill-with-returns t)
+    (fill-with-word-of-requires t)
+    (fill-with-push-requires t)
+    (fill-with-may-be-requires t)
+    (fill-with-same-length-2 t)
+    (fill-with-returns-2 t)
+    (fill-with-look-body-requires t)
+    (fill-with-same-length-3 t)
+    (fill-with-returns-3 t)
+    (fill-with-fill-requires t)
+    (fill-with-same-length-4 t)
+    (fill-with-returns-4 t))
+    (λ t. look-lts.spec (
+      word-there-reads.Asked,
+      word-there-reads.Learnt,
+      look-both-below t,
+      look-both.Post,
+      look-one-below t,
+      look-one.Post,
+    )
+    (look-at t)
+    look.Post
+    (look-word-there-requires t)
+    (look-enum-told t)
+    (look-look-both-requires t)
+    (look-look-one-requires t)
+    (look-same-length t)
+    (look-returns t)
+    (look-same-length-2 t)
+    (look-returns-2 t))
+    (λ t. look-body-lts.spec (
+      body-place-reads.Asked,
+      body-place-reads.Learnt,
+      look-below t,
+      look.Post,
+    )
+    (look-body-at t)
+    look-body.Post
+    (look-body-returns t)
+    (look-body-body-place-requires t)
+    (look-body-look-requires t)
+    (look-body-same-length t)
+    (look-body-returns-2 t))
+    (λ t. look-both-lts.spec (
+      past-part-reads.Asked,
+      past-part-reads.Learnt,
+      within-reads.Asked,
+      within-reads.Learnt,
+      look-below t,
+      look.Post,
+    )
+    (look-both-at t)
+    look-both.Post
+    (look-both-returns t)
+    (look-both-past-part-requires t)
+    (look-both-enum-known-n t)
+    (look-both-enum-told t)
+    (look-both-returns-2 t)
+    (look-both-within-requires t)
+    (look-both-sub-look t)
+    (look-both-look-requires t)
+    (look-both-same-length t)
+    (look-both-returns-3 t)
+    (look-both-within-requires-2 t)
+    (look-both-sub-look-2 t)
+    (look-both-look-requires-2 t)
+    (look-both-same-length-2 t)
+    (look-both-returns-4 t))
+    (λ t. look-one-lts.spec (
+      is-due-reads.Asked,
+      is-due-reads.Learnt,
+      prove-goal-below t,
+      prove-goal.Post,
+    )
+    (look-one-at t)
+    look-one.Post
+    (look-one-is-due-requires t)
+    (look-one-same-length t)
+    (look-one-returns t)
+    (look-one-prove-goal-requires t)
+    (look-one-same-length-2 t)
+    (look-one-returns-2 t))
     (λ t. prove-all-lts.spec (
       push-reads.Asked,
       push-reads.Learnt,
@@ -1297,62 +1792,36 @@ pub +prove-all+prove-atom+prove-both+prove-either+prove-goal+prove-some+prove-un
     (prove-with-same-length-2 t)
     (prove-with-returns-2 t))
     (λ t. through-lts.spec (
+      parts-of-reads.Asked,
+      parts-of-reads.Learnt,
+      through-plain-below t,
+      through-plain.Post,
       word-there-reads.Asked,
       word-there-reads.Learnt,
-      same-atoms-reads.Asked,
-      same-atoms-reads.Learnt,
-      through-imp-below t,
-      through-imp.Post,
       through-and-below t,
       through-and.Post,
-      through-all-below t,
-      through-all.Post,
+      through-each-below t,
+      through-each.Post,
     )
     (through-at t)
     through.Post
     (through-returns t)
-    (through-word-there-requires t)
-    (through-enum-told t)
-    (through-same-atoms-requires t)
-    (through-enum-told-2 t)
-    (through-through-imp-requires t)
-    (through-enum-told-3 t)
-    (through-sub-through-and t)
-    (through-through-and-requires t)
-    (through-enum-told-4 t)
-    (through-sub-through-all t)
-    (through-through-all-requires t)
+    (through-parts-of-requires t)
+    (through-through-plain-requires t)
     (through-same-length t)
     (through-returns-2 t)
+    (through-word-there-requires t)
+    (through-enum-told t)
+    (through-sub-through-and t)
+    (through-through-and-requires t)
+    (through-enum-told-2 t)
+    (through-sub-through-each t)
+    (through-through-each-requires t)
     (through-same-length-2 t)
     (through-returns-3 t)
     (through-same-length-3 t)
     (through-returns-4 t)
-    (through-same-length-4 t)
-    (through-returns-5 t)
-    (through-returns-6 t))
-    (λ t. through-all-lts.spec (
-      further-reads.Asked,
-      further-reads.Learnt,
-      by-head-reads.Asked,
-      by-head-reads.Learnt,
-      through-with-below t,
-      through-with.Post,
-      through-each-below t,
-      through-each.Post,
-    )
-    (through-all-at t)
-    through-all.Post
-    (through-all-further-requires t)
-    (through-all-by-head-requires t)
-    (through-all-enum-known-i t)
-    (through-all-through-with-requires t)
-    (through-all-enum-told t)
-    (through-all-through-each-requires t)
-    (through-all-same-length t)
-    (through-all-returns t)
-    (through-all-same-length-2 t)
-    (through-all-returns-2 t))
+    (through-returns-5 t))
     (λ t. through-and-lts.spec (
       past-part-reads.Asked,
       past-part-reads.Learnt,
@@ -1395,33 +1864,33 @@ pub +prove-all+prove-atom+prove-both+prove-either+prove-goal+prove-some+prove-un
     (through-each-loop-again t)
     (through-each-same-length-2 t)
     (through-each-returns-2 t))
-    (λ t. through-imp-lts.spec (
-      past-part-reads.Asked,
-      past-part-reads.Learnt,
-      further-reads.Asked,
-      further-reads.Learnt,
-      same-atoms-reads.Asked,
-      same-atoms-reads.Learnt,
-      plus-reads.Asked,
-      plus-reads.Learnt,
-      prove-goal-below t,
-      prove-goal.Post,
+    (λ t. through-plain-lts.spec (
+      unset-all-reads.Asked,
+      unset-all-reads.Learnt,
+      may-be-reads.Asked,
+      may-be-reads.Learnt,
+      settle-reads.Asked,
+      settle-reads.Learnt,
+      look-body-below t,
+      look-body.Post,
+      fill-below t,
+      fill.Post,
     )
-    (through-imp-at t)
-    through-imp.Post
-    (through-imp-past-part-requires t)
-    (through-imp-enum-known-n t)
-    (through-imp-enum-told t)
-    (through-imp-returns t)
-    (through-imp-further-requires t)
-    (through-imp-same-atoms-requires t)
-    (through-imp-same-length t)
-    (through-imp-returns-2 t)
-    (through-imp-further-requires-2 t)
-    (through-imp-plus-requires t)
-    (through-imp-prove-goal-requires t)
-    (through-imp-same-length-2 t)
-    (through-imp-returns-3 t))
+    (through-plain-at t)
+    through-plain.Post
+    (through-plain-unset-all-requires t)
+    (through-plain-may-be-requires t)
+    (through-plain-same-length t)
+    (through-plain-returns t)
+    (through-plain-settle-requires t)
+    (through-plain-same-length-2 t)
+    (through-plain-returns-2 t)
+    (through-plain-look-body-requires t)
+    (through-plain-same-length-3 t)
+    (through-plain-returns-3 t)
+    (through-plain-fill-requires t)
+    (through-plain-same-length-4 t)
+    (through-plain-returns-4 t))
     (λ t. through-with-lts.spec (
       may-use-reads.Asked,
       may-use-reads.Learnt,
