@@ -34,6 +34,7 @@ use Rattle.fof_pass.specs.Ink.{Inks}
 use Rattle.fof_pass.specs.Names.{Scoped, numberIs}
 use Rattle.fof_plan.specs.Planned.{nameAhead, beyond, written, scopeThen, duesIn, planned, Named}
 use Rattle.fof_lines.specs.Holding.{namedMarks, variableMarks, WrittenAs, Writing, Binding, Pushing, Enough, Holds, DoneAs, Acts}
+use Rattle.fof_part.proofs.CostLaws.{cost-some}
 use Rattle.fof_pass.proofs.InkLaws.{inks-then}
 
 -- the sign ahead: its name, the signs behind it, and that a sign of number 1 is a variable
@@ -206,23 +207,6 @@ push-four p {st} {st1} {st2} {st3} {st4} {n4 = n4} a b c e = record {
       let h1 = push-on (p .first) (m2 ++ (m3 ++ (m4 ++ ds))) e h2 l1 (omega (arith, a .long, b .long, c .long)) (f .0) in
       subst (λ (x : List part.Due). Held st4 n4 x) (sym (four m1 m2 m3 m4 ds)) h1;
 }
-
--- every due costs something
-cost-some : (d : part.Due) → 1 ≤ cost d
-cost-some (part.Due.formula s) = omega arith
-cost-some (part.Due.unit s) = omega arith
-cost-some (part.Due.more l s n) = omega arith
-cost-some part.Due.arrow = omega arith
-cost-some part.Due.close = omega arith
-cost-some (part.Due.list q s) = omega arith
-cost-some (part.Due.variable q s) = omega arith
-cost-some (part.Due.behind q s) = omega arith
-cost-some (part.Due.over s) = omega arith
-cost-some part.Due.arguments = omega arith
-cost-some part.Due.term = omega arith
-cost-some part.Due.terms = omega arith
-cost-some part.Due.shut = omega arith
-cost-some part.Due.leave = omega arith
 
 length-costs : (ds : List part.Due) → length ds ≤ costs ds
 length-costs [] = omega arith

@@ -162,7 +162,7 @@ costs-append [] ys = omega arith
 costs-append (x ∷ xs) ys = ap (λ a. cost x + a) (costs-append xs ys) ∙ omega arith
 
 -- every due costs something
-cost-some : (d : Due) → 1 ≤ cost d
+pub cost-some : (d : Due) → 1 ≤ cost d
 cost-some (Due.formula s) = omega arith
 cost-some (Due.unit s) = omega arith
 cost-some (Due.more l s n) = omega arith

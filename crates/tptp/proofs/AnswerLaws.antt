@@ -1,6 +1,6 @@
--- The answer and the two buffers are decided for every input; which refusal is given exactly when; and on any refusal both buffers are as they came (document 02, One).
+-- The answer and the two buffers are decided for every input; which refusal is given exactly when, and when the files are written; and on any refusal both buffers are as they came (document 02, One).
 use Prim.Native.Nat.{ℕ, _≤_}
-use mathlib.Core.Path.{_≡_, refl, sym, _∙_, ap, subst}
+use mathlib.Core.Path.{_≡_, refl, sym, _∙_, ap, ap₂, subst}
 use mathlib.Core.List.{List, [], _∷_}
 use mathlib.Core.Logic.{_↔_}
 use native.Mathlib.Omega.{arith}
@@ -13,7 +13,7 @@ use Rattle.fof_truth.specs.Book.{Why}
 use Rattle.tptp.specs.declared.Converted.{Converted}
 use Rattle.tptp.specs.declared.Converted.the-variants as C
 use Rattle.tptp.specs.Comes.{Refusal, number, Comes, comesTo, answered, rulesAfter, goalAfter, Converts}
-use Rattle.tptp.specs.Meaning.{Spells, Says, Means}
+use Rattle.tptp.specs.Meaning.{Spells, Says, Fits, Means}
 use Rattle.tptp.proofs.MeaningLaws.{text-told, text-only}
 
 -- any two results for one input are equal
@@ -65,6 +65,17 @@ module _ {text rules rules′ goal goal′ : List ℕ} {r : Converted} (h : Conv
   refused-exactly w = (
     λ e. refused-there w (comesTo text (length rules) (length goal)) (text-told text (length rules) (length goal)) (sym (h .answer) ∙ e),
     λ s. h .answer ∙ ap answered (text-only text (length rules) (length goal) (Comes.refused w) s),
+  )
+
+  written-there : (x y : ℕ) (z : Comes) → Means text (length rules) (length goal) z → answered z ≡ C.Written x y → (rs : List ℕ) × (g : List ℕ) × Fits text (length rules) (length goal) rs g × (length rs ≡ x) × (length g ≡ y)
+  written-there x y (Comes.files rs g) m e = (rs, g, m, ap firstOf e, ap secondOf e)
+  written-there x y (Comes.refused w) m e = absurd (let z : _≡_ {A = ℕ} 1 0 = ap kindOf e in omega arith)
+
+  -- written exactly if the text holds a book whose two files, of these lengths, are within all sizes
+  pub written-exactly : (x y : ℕ) → (r ≡ C.Written x y) ↔ ((rs : List ℕ) × (g : List ℕ) × Fits text (length rules) (length goal) rs g × (length rs ≡ x) × (length g ≡ y))
+  written-exactly x y = (
+    λ e. written-there x y (comesTo text (length rules) (length goal)) (text-told text (length rules) (length goal)) (sym (h .answer) ∙ e),
+    λ (rs, g, m, u, v). h .answer ∙ ap answered (text-only text (length rules) (length goal) (Comes.files rs g) m) ∙ ap₂ C.Written u v,
   )
 
   -- 12 exactly if the whole text, of at most 16,384 bytes, is no list of `fof` lines by the grammar

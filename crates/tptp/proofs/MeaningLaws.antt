@@ -59,6 +59,10 @@ spelt-text text a c ls h s =
 spelt-by : (text : List ℕ) (ts : List Token) (ls : List Line) → tokens text ≡ some ts → Spells text ls → BookSpelt ls (signs ts)
 spelt-by text ts ls e s = subst (λ (x : List Token). BookSpelt ls (signs x)) (cut-once text (s .cut) ts (s .cuts) (tokens-right text ts .0 e)) (s .spelt)
 
+-- a text spells one list of lines at most
+pub spells-once : (text : List ℕ) (ls ms : List Line) → Spells text ls → Spells text ms → ls ≡ ms
+spells-once text ls ms s t = spelt-once (signs (s .cut)) ls ms (s .spelt) (spelt-by text (s .cut) ms (tokens-right text (s .cut) .1 (s .cuts)) t)
+
 -- where the tokens are no items, no lines of the part are spelt
 none-in-part : (text : List ℕ) (ts : List Token) → tokens text ≡ some ts → linesAt (signs ts) ≡ none → (ls : List Line) → Spells text ls → BookInPart ls → ⊥
 none-in-part text ts e n ls s p =
@@ -68,12 +72,12 @@ none-in-part text ts e n ls s p =
 
 module _ (text : List ℕ) (a c : ℕ) where
   -- what lines come to, said of the text that spells them
-  book-means : (ls : List Line) (o : Outcome) → length text ≤ mostBytes → Sound text → Spells text ls → ((ms : List Line) → Spells text ms → ls ≡ ms) → lines.Means ls a c o → Means text a c (ofMade (shown o))
-  book-means ls o h s p once (lines.outside n) = (h, s, λ ms q m. n (subst BookInPart (sym (once ms q)) m))
-  book-means ls o h s p once (lines.tooMany b i e m) = (b, record { short = h; lines = ls; spells = p; inPart = i; becomes = e }, m)
-  book-means ls o h s p once (lines.tooDeep b i e f m) = (b, record { short = h; lines = ls; spells = p; inPart = i; becomes = e }, f, m)
-  book-means ls o h s p once (lines.tooLong b i e f g m) = (b, record { short = h; lines = ls; spells = p; inPart = i; becomes = e }, f, g, m)
-  book-means ls o h s p once (lines.written {b = b} i e f g k) =
+  book-means : (ls : List Line) (o : Outcome) → length text ≤ mostBytes → Sound text → Spells text ls → lines.Means ls a c o → Means text a c (ofMade (shown o))
+  book-means ls o h s p (lines.outside n) = (h, s, λ ms q m. n (subst BookInPart (sym (spells-once text ls ms p q)) m))
+  book-means ls o h s p (lines.tooMany b i e m) = (b, record { short = h; lines = ls; spells = p; inPart = i; becomes = e }, m)
+  book-means ls o h s p (lines.tooDeep b i e f m) = (b, record { short = h; lines = ls; spells = p; inPart = i; becomes = e }, f, m)
+  book-means ls o h s p (lines.tooLong b i e f g m) = (b, record { short = h; lines = ls; spells = p; inPart = i; becomes = e }, f, g, m)
+  book-means ls o h s p (lines.written {b = b} i e f g k) =
       record { book = b; holds = record { short = h; lines = ls; spells = p; inPart = i; becomes = e }; few = f; flat = g; short = k; rules = refl; goal = refl }
 
   -- a text that can be read: its tokens are items of lines that are spelt so, or of none
@@ -84,7 +88,7 @@ module _ (text : List ℕ) (a c : ℕ) where
   tokens-mean ts e h s (some its) n =
       let k = part.sound (signs ts) its n in
       subst (λ (m : Made). Means text a c (ofMade m)) (sym (book-made (k .lines) (signs ts) a c (k .spelt)))
-      (book-means (k .lines) (bookOf (k .lines) a c) h s (record { cut = ts; cuts = tokens-right text ts .0 e; spelt = k .spelt }) (λ ms q. spelt-once (signs ts) (k .lines) ms (k .spelt) (spelt-by text ts ms e q)) (book-told (k .lines) a c))
+      (book-means (k .lines) (bookOf (k .lines) a c) h s (record { cut = ts; cuts = tokens-right text ts .0 e; spelt = k .spelt }) (book-told (k .lines) a c))
 
   sound-means : length text ≤ mostBytes → Sound text → (o : Option (List Token)) → tokens text ≡ o → Means text a c (ofTokens o a c)
   sound-means h s none e = absurd (no-tokens text .0 e (s .cut) (s .cuts))

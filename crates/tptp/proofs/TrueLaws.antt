@@ -1,21 +1,20 @@
 -- From the bytes of the text to the bytes of the files (document 02, One: "What is written is true in the same structures as the TPTP formula"): what is written is read as rules and a goal that are
 -- as true as the axioms and the conjecture of the lines that the text spells, in file order, in every structure and for every logic.
 use Prim.Native.Nat.{ℕ, _≤_}
-use mathlib.Core.Path.{_≡_, refl, sym, _∙_, ap, ap₂}
+use mathlib.Core.Path.{_≡_, refl, sym, _∙_, ap, ap₂, subst}
 use mathlib.Core.List.{List, [], _∷_, map}
+use mathlib.Core.Logic.{_↔_}
 use native.Mathlib.Omega.{arith}
 use lib.ListN.{length, take, drop}
 use lib.Seq.{take-append-seam, drop-append-seam}
-use Rattle.harrop.specs.Formula.{Name}
 use Rattle.packet.specs.declared.Kind.the-variants as K
 use Rattle.packet.specs.declared.File.the-variants as F
 use Rattle.packet.specs.Read.{goalOf, rulesOf}
-use Rattle.packet.specs.File as file
 use Rattle.packet.specs.File.{mostBytes, fileOf}
 use Rattle.calculus.specs.Translation.{goalFormula, clauseFormula}
 use Rattle.fof_truth.specs.Formula.{Line}
-use Rattle.fof_truth.specs.Truth.{Logic, Structure, truth, plainTruth}
-use Rattle.fof_truth.specs.Part.{axioms, conjectures, BookInPart}
+use Rattle.fof_truth.specs.Truth.{Logic, evident, classical, truth, plainTruth}
+use Rattle.fof_truth.specs.Part.{axioms, conjectures}
 use Rattle.fof_truth.specs.Book.{Book, rulesFile, goalFile, Outcome}
 use Rattle.fof_truth.specs.Meaning as lines
 use Rattle.fof_truth.proofs.BookLaws.{book-only, book-is-as-true}
@@ -23,36 +22,10 @@ use Rattle.fof_truth.proofs.ReadLaws.{what-is-written-is-read}
 use Rattle.tptp.specs.declared.Converted.{Converted}
 use Rattle.tptp.specs.declared.Converted.the-variants as C
 use Rattle.tptp.specs.Comes.{Comes, comesTo, answered, over, rulesAfter, goalAfter, Converts}
-use Rattle.tptp.specs.Meaning.{Spells, Means}
+use Rattle.tptp.specs.Meaning.{Means}
+use Rattle.tptp.specs.True.{Front, AsTrue, Translated, InStep, Alike}
 use Rattle.tptp.proofs.MeaningLaws.{text-told}
 use Rattle.tptp.proofs.AnswerLaws.{firstOf, secondOf, kindOf}
-
--- a file stands in front of a buffer of which the rest is kept
-pub record Front (w d d′ : List ℕ) (n : ℕ) : Type 0 where
-  pub fits : length w ≤ length d
-  pub allowed : length w ≤ mostBytes
-  pub long : n ≡ length w
-  pub filled : take n d′ ≡ w
-  pub kept : drop n d′ ≡ drop n d
-
--- the truths of the axioms, in file order, are those of the rules, and the conjecture's is the goal's, whatever the variables and the parameters stand for
-abbrev pub AsTrue : List Line → Book → Type 2
-AsTrue ls b =
-    (L : Logic) (S : Structure (L .Value)) (π : ℕ → S .Domain) (ρ : Name → S .Domain) (σ : ℕ → S .Domain) →
-    (map (truth L S ρ) (axioms ls) ≡ map (λ d. plainTruth L S π σ (clauseFormula d)) (b .rules))
-    × (map (truth L S ρ) (conjectures ls) ≡ plainTruth L S π σ (goalFormula (b .goal)) ∷ [])
-
--- what an answer "written" with two lengths says of a text and of the buffers before and after
-pub record Translated (text rules rules′ goal goal′ : List ℕ) (x y : ℕ) : Type 2 where
-  pub lines : List Line
-  pub spells : Spells text lines
-  pub inPart : BookInPart lines
-  pub book : Book
-  pub asTrue : AsTrue lines book
-  pub rulesFront : Front (rulesFile book) rules rules′ x
-  pub goalFront : Front (goalFile book) goal goal′ y
-  pub rulesRead : fileOf K.Rules F.Rules rulesOf (take x rules′) ≡ file.Outcome.sound (book .rules)
-  pub goalRead : fileOf K.Goal F.Goal goalOf (take y goal′) ≡ file.Outcome.sound (book .goal)
 
 front-of : (w d d′ : List ℕ) (n : ℕ) → length w ≤ length d → length w ≤ mostBytes → n ≡ length w → d′ ≡ over w d → Front w d d′ n
 front-of w d d′ n l m e f = record { fits = l; allowed = m; long = e; filled = ap₂ take e f ∙ take-append-seam w (drop (length w) d); kept = ap₂ drop e f ∙ drop-append-seam w (drop (length w) d) ∙ ap (λ (m : ℕ). drop m d) (sym e) }
@@ -88,3 +61,30 @@ module _ {text rules rules′ goal goal′ : List ℕ} {r : Converted} (h : Conv
   written-inside x y e =
       let t = what-is-written-is-as-true x y e in
       (omega (arith, t .rulesFront .fits, t .rulesFront .long), omega (arith, t .goalFront .fits, t .goalFront .long))
+
+-- equal lists are in step, where each member stands so to itself
+equal-in-step : {W : Type 1} (R : W → W → Type 0) → ((v : W) → R v v) → (vs ws : List W) → vs ≡ ws → InStep R vs ws
+equal-in-step {W} R h vs ws e = subst (InStep R vs) e (go vs)
+  where
+    go : (us : List W) → InStep R us us
+    go [] = tt
+    go (u ∷ us) = (h u, go us)
+
+-- so are equal truths, in any logic
+as-true-alike : (L : Logic) (R : L .Value → L .Value → Type 0) → ((v : L .Value) → R v v) → (ls : List Line) (b : Book) → AsTrue ls b → Alike L R ls b
+as-true-alike L R h ls b t = λ S π ρ σ. let (u, v) = t L S π ρ σ in (
+  equal-in-step R h (map (truth L S ρ) (axioms ls)) (map (λ d. plainTruth L S π σ (clauseFormula d)) (b .rules)) u,
+  equal-in-step R h (map (truth L S ρ) (conjectures ls)) (plainTruth L S π σ (goalFormula (b .goal)) ∷ []) v,
+)
+
+exactly-itself : (A : Type 0) → A ↔ A
+exactly-itself A = (λ a. a, λ a. a)
+
+module _ {text rules rules′ goal goal′ : List ℕ} {x y : ℕ} (t : Translated text rules rules′ goal goal′ x y) where
+  -- where a truth is its evidence: each axiom of the text is true exactly if the rule at its place is, and the conjecture exactly if the goal is
+  pub evident-exactly : Alike evident (λ (A B : Type 0). A ↔ B) (t .lines) (t .book)
+  evident-exactly = as-true-alike evident (λ (A B : Type 0). A ↔ B) exactly-itself (t .lines) (t .book) (t .asTrue)
+
+  -- the same classically
+  pub classically-exactly : Alike classical (λ (A B : Type 0). A ↔ B) (t .lines) (t .book)
+  classically-exactly = as-true-alike classical (λ (A B : Type 0). A ↔ B) exactly-itself (t .lines) (t .book) (t .asTrue)
