@@ -54,17 +54,17 @@ pub fn prove_goal<'a>(
     match word_there(rules, goal, terms, w.goal) {
         Word::Top => true,
         Word::Atom => prove_atom(rules, goal, terms, room, w, height - 1),
-        Word::And => prove_both(rules, goal, terms, room, w, height - 1),
-        Word::Or => prove_either(rules, goal, terms, room, w, height - 1),
+        Word::And => prove_and(rules, goal, terms, room, w, height - 1),
+        Word::Or => prove_or(rules, goal, terms, room, w, height - 1),
         Word::Some => prove_some(rules, goal, terms, room, w, height - 1),
         Word::All => prove_all(rules, goal, terms, room, w, height - 1),
-        Word::Imp => prove_under(rules, goal, terms, room, w, height - 1),
+        Word::Imp => prove_imp(rules, goal, terms, room, w, height - 1),
         _ => false,
     }
 }
 
 // Both parts of an `and`, each with what is left of the height.
-fn prove_both<'a>(
+fn prove_and<'a>(
     rules: &'a [u8],
     goal: &'a [u8],
     terms: &'a [u8],
@@ -84,7 +84,7 @@ fn prove_both<'a>(
 }
 
 // The left part of an `or`, else the right one.
-fn prove_either<'a>(
+fn prove_or<'a>(
     rules: &'a [u8],
     goal: &'a [u8],
     terms: &'a [u8],
@@ -164,7 +164,7 @@ fn prove_all<'a>(
 }
 
 // The part of an `imp`, under its clause.
-fn prove_under<'a>(
+fn prove_imp<'a>(
     rules: &'a [u8],
     goal: &'a [u8],
     terms: &'a [u8],
@@ -245,7 +245,7 @@ pub fn through<'a>(
     }
     let p = parts_of(rules, goal, terms, x, 0, 64);
     if p.found {
-        return through_plain(rules, goal, terms, room, w, p, left);
+        return start(rules, goal, terms, room, w, p, left);
     }
     match word_there(rules, goal, terms, x) {
         Word::And => through_and(rules, goal, terms, room, w, x, nest - 1, left),
@@ -255,7 +255,7 @@ pub fn through<'a>(
 }
 
 // A clause with no `and` on the way to its head, its variables not set yet.
-fn through_plain<'a>(
+fn start<'a>(
     rules: &'a [u8],
     goal: &'a [u8],
     terms: &'a [u8],
@@ -273,14 +273,14 @@ fn through_plain<'a>(
     if !settle(rules, goal, terms, room, w, p) {
         return false;
     }
-    if !look_body(rules, goal, terms, room, w, p, false, 0, left) {
+    if !body(rules, goal, terms, room, w, p, false, 0, left) {
         return false;
     }
     fill(rules, goal, terms, room, w, p, p.own, left)
 }
 
 // The goals of the body, if there is one.
-fn look_body<'a>(
+fn body<'a>(
     rules: &'a [u8],
     goal: &'a [u8],
     terms: &'a [u8],
@@ -324,13 +324,13 @@ fn look<'a>(
     ensures { λ r. ⌜ Looking (filesOf (now (rules .entry)) (now (goal .entry)) (now (terms .entry))) (now (room .entry)) (now (room .exit)) w own also v height r ⌝ }
 {
     match word_there(rules, goal, terms, w.goal) {
-        Word::And => look_both(rules, goal, terms, room, w, own, also, v, height),
-        _ => look_one(rules, goal, terms, room, w, own, also, v, height),
+        Word::And => look_and(rules, goal, terms, room, w, own, also, v, height),
+        _ => ask(rules, goal, terms, room, w, own, also, v, height),
     }
 }
 
 // Both parts of an `and`.
-fn look_both<'a>(
+fn look_and<'a>(
     rules: &'a [u8],
     goal: &'a [u8],
     terms: &'a [u8],
@@ -401,7 +401,7 @@ fn is_due<'a>(
 }
 
 // A goal that is no `and`: nothing is asked of it while it holds an unset variable, or if it was looked at before.
-fn look_one<'a>(
+fn ask<'a>(
     rules: &'a [u8],
     goal: &'a [u8],
     terms: &'a [u8],
@@ -437,13 +437,13 @@ fn fill<'a>(
         return same_atoms(rules, goal, terms, room, p.head, w.goal);
     }
     if is_open(room, p.head, p.own, k - 1) {
-        return fill_each(rules, goal, terms, room, w, p, k - 1, left);
+        return try_all(rules, goal, terms, room, w, p, k - 1, left);
     }
     fill(rules, goal, terms, room, w, p, k - 1, left)
 }
 
 // Variable v with one candidate after the other; if none does, it is unset again.
-fn fill_each<'a>(
+fn try_all<'a>(
     rules: &'a [u8],
     goal: &'a [u8],
     terms: &'a [u8],
@@ -458,7 +458,7 @@ fn fill_each<'a>(
     let n = candidates(room);
     let mut i: u32 = 0;
     while i < n {
-        if fill_with(rules, goal, terms, room, w, p, v, i, left) {
+        if try_one(rules, goal, terms, room, w, p, v, i, left) {
             return true;
         }
         i += 1;
@@ -468,7 +468,7 @@ fn fill_each<'a>(
 }
 
 // Variable v with candidate i, if it may be used.
-fn fill_with<'a>(
+fn try_one<'a>(
     rules: &'a [u8],
     goal: &'a [u8],
     terms: &'a [u8],
@@ -488,7 +488,7 @@ fn fill_with<'a>(
     if !may_be(rules, goal, terms, room, p.head, w.goal, p.own) {
         return false;
     }
-    if !look_body(rules, goal, terms, room, w, p, true, v, left) {
+    if !body(rules, goal, terms, room, w, p, true, v, left) {
         return false;
     }
     fill(rules, goal, terms, room, w, p, v, left)
