@@ -1,0 +1,5 @@
+pub mod KeyLaws
+pub mod WalkLaws
+pub mod AtomLaws
+pub mod RuleLaws
+pub mod FillLaws

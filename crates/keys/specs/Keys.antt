@@ -1,0 +1,83 @@
+-- The numbers at spots of the files, and the tables of them in the room (document 02, Three): those of rules in 256 words, those of candidates in the 256 words after them.
+use Prim.Native.Nat.{ℕ, _+_, _≤_, _<_, min}
+use mathlib.Core.Path.{_≡_}
+use mathlib.Core.Bool.{true}
+use mathlib.Core.List.{List}
+use mathlib.Core.Option.{some}
+use lib.ListN.{length, getD, getElem?}
+use Rattle.harrop.specs.Formula.{Term, Atom, Clause}
+use Rattle.harrop.specs.Bindings.{replaced, replacedAtom}
+use Rattle.harrop.specs.Place.{Plain}
+use Rattle.sexp.specs.Sexp.{Stands, nesting}
+use Rattle.packet.specs.Written.{termSexp, clauseSexp}
+use Rattle.packet.specs.Barred.{termOk, clauseOk}
+use Rattle.room.specs.Layout.{words, levels, rulesWord, ruleWord, candidatesWord, candidateWord}
+use Rattle.room.specs.Spot.{bindingsAt}
+use Rattle.room.specs.Table.{CandidatesIn}
+use Rattle.room.specs.Term.{TermAt, AtomAt}
+use Rattle.room.specs.Where.{Files, filesOf, Booked}
+use Rattle.room.specs.declared.Spot.{Spot}
+use Rattle.heads.specs.Predicate.{AtomThere, ClauseThere}
+use Rattle.keys.specs.Key.{termKey, atomKey, predicateKey, clauseKey}
+use Rattle.keys.specs.Walk.{keptWord}
+
+-- where the number of rule k is kept, and the first word after both tables
+abbrev pub keyWord : ℕ → ℕ
+keyWord k = 3200 + k
+
+abbrev pub keysEnd : ℕ
+keysEnd = 3712
+
+-- the tables are right
+abbrev pub CandidateKeys : List ℕ → List Term → Type 0
+CandidateKeys room cs = (i : ℕ) (t : Term) → getElem? cs i ≡ some t → getD room (keptWord i) 0 ≡ termKey t
+
+abbrev pub RuleKeys : List ℕ → List (Clause Plain) → Type 0
+RuleKeys room ds = (k : ℕ) (d : Clause Plain) → getElem? ds k ≡ some d → getD room (keyWord k) 0 ≡ clauseKey d
+
+pub record KeysIn (room : List ℕ) (ds : List (Clause Plain)) (cs : List Term) : Type 0 where
+  pub rules : RuleKeys room ds
+  pub candidates : CandidateKeys room cs
+
+-- the answer is the number of the term, of the atom, of the atom's predicate, or of the clause at a spot
+abbrev pub TermKeyAt : Files → List ℕ → Spot → ℕ → Type 0
+TermKeyAt f room x r =
+    (cs : List Term) (t : Term) → CandidatesIn room (f .terms) cs → CandidateKeys room cs → TermAt (f .rules) (f .goal) (f .terms) x t → r ≡ termKey (replaced cs (bindingsAt room x) t)
+
+abbrev pub AtomKeyAt : Files → List ℕ → Spot → ℕ → Type 0
+AtomKeyAt f room x r =
+    (cs : List Term) (a : Atom) → CandidatesIn room (f .terms) cs → CandidateKeys room cs → AtomAt (f .rules) (f .goal) (f .terms) x a → r ≡ atomKey (replacedAtom cs (bindingsAt room x) a)
+
+abbrev pub PredicateKeyAt : Files → Spot → ℕ → Type 0
+PredicateKeyAt f x r = (a : Atom) → AtomThere f x a → r ≡ predicateKey a
+
+abbrev pub RuleKeyAt : Files → Spot → ℕ → Type 0
+RuleKeyAt f x r = (d : Clause Plain) (n : ℕ) → ClauseThere f x d → clauseOk n d ≡ true → r ≡ clauseKey d
+
+-- of the room nothing but the words from one up to another is written
+pub record Within (before after : List ℕ) (from to : ℕ) : Type 0 where
+  pub long : length after ≡ length before
+  pub below : (j : ℕ) → j < from → getD after j 0 ≡ getD before j 0
+  pub above : (j : ℕ) → to ≤ j → getD after j 0 ≡ getD before j 0
+
+-- the numbers of the first n candidates, and of the first n rules, are in the room
+pub record CandidatesDone (before after terms : List ℕ) (n : ℕ) : Type 0 where
+  pub within : Within before after (keptWord 0) keysEnd
+  pub right : keysEnd ≤ length before → (i : ℕ) → i < n → (t : Term) → Stands terms (getD before (candidateWord i) 0) (termSexp t) → termOk true 0 t ≡ true → nesting (termSexp t) ≤ levels
+      → getD after (keptWord i) 0 ≡ termKey t
+
+pub record RulesDone (before after rules : List ℕ) (n : ℕ) : Type 0 where
+  pub within : Within before after (keyWord 0) (keptWord 0)
+  pub right : keysEnd ≤ length before → (k : ℕ) → k < n → (d : Clause Plain) → Stands rules (getD before (ruleWord k) 0) (clauseSexp d) → clauseOk 0 d ≡ true → nesting (clauseSexp d) ≤ levels
+      → getD after (keyWord k) 0 ≡ clauseKey d
+
+abbrev pub CandidatesKept : List ℕ → List ℕ → List ℕ → Type 0
+CandidatesKept before after terms = CandidatesDone before after terms (min (getD before candidatesWord 0) 256)
+
+abbrev pub RulesKept : List ℕ → List ℕ → List ℕ → Type 0
+RulesKept before after rules = RulesDone before after rules (min (getD before rulesWord 0) 256)
+
+-- both tables filled: nothing else of the room is written, and for a packet whose rules and candidates are in the room's tables they are right
+pub record KeysFilled (before after rules terms : List ℕ) : Type 0 where
+  pub within : Within before after (keyWord 0) keysEnd
+  pub right : words ≤ length before → (goal : List ℕ) (ds : List (Clause Plain)) (cs : List Term) → Booked (filesOf rules goal terms) before ds cs → KeysIn after ds cs
