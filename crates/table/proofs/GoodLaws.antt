@@ -1,0 +1,153 @@
+-- Laws of a right table (specs/Good): it speaks of its own words only, holds for fewer supposed clauses too, and stays right where one slot is changed to one that is right.
+use Prim.Native.Nat.{ℕ, suc, _+_, _*_, _%_, _≤_, _<_}
+use mathlib.Core.Path.{_≡_, refl, sym, _∙_, ap, subst}
+use mathlib.Core.Bool.{Bool, true, false, false≢true}
+use mathlib.Core.List.{List}
+use native.Mathlib.Omega.{arith}
+use lib.Dec.{eqb}
+use lib.ListN.{length, getD}
+use borrow.Author.Tests.{eqb-true, eqb-false}
+use Rattle.harrop.specs.Formula.{Term, Atom}
+use Rattle.harrop.specs.Bindings.{Bindings, replacedAtom, sameAtom}
+use Rattle.harrop.proofs.SameLaws.{same-atoms-equal}
+use Rattle.room.specs.Frame.{bindingsIn}
+use Rattle.room.specs.Spot.{sourceOf, bindingsAt}
+use Rattle.room.specs.Table.{CandidatesIn}
+use Rattle.room.specs.Term.{AtomAt, SameAtoms}
+use Rattle.room.specs.Where.{Files}
+use Rattle.room.specs.declared.Spot.{Spot}
+use Rattle.room.specs.declared.Where.{Where}
+use Rattle.room.proofs.FrameLaws.{frames-alike}
+use Rattle.room.proofs.FileLaws.{spot-alike}
+use Rattle.table.specs.Slots.{tableWord, Slot, slotSpot, countOf, markOf, parametersOf, failedAt, provedAt}
+use Rattle.table.specs.Good.{Truth, Rises, Right, Good}
+use Rattle.table.specs.declared.Recalled.{Recalled}
+use Rattle.table.specs.declared.Recalled.the-variants.{Unknown, No, Yes}
+use Rattle.table.specs.Recall.{This, Says, Recalls}
+
+-- the words of a slot but its heights are the same: so are its spot and its bindings
+abbrev pub Entry : List ℕ → List ℕ → ℕ → Type 0
+Entry room after at = (k : ℕ) → k < 16 → (k ≡ 5 → ⊥) → (k ≡ 6 → ⊥) → getD after (at + k) 0 ≡ getD room (at + k) 0
+
+entry-spot : (room after : List ℕ) (at : ℕ) → Entry room after at → slotSpot after at ≡ slotSpot room at
+entry-spot room after at e = spot-alike (ap sourceOf (e 0 (omega arith) (λ z. omega arith) (λ z. omega arith))) (e 1 (omega arith) (λ z. omega arith) (λ z. omega arith)) refl (e 2 (omega arith) (λ z. omega arith) (λ z. omega arith))
+
+entry-bindings : (room after : List ℕ) (at : ℕ) → countOf room at ≤ 8 → Entry room after at → bindingsAt after (slotSpot after at) ≡ bindingsAt room (slotSpot room at)
+entry-bindings room after at few e =
+    ap (bindingsIn after (at + 8)) (e 2 (omega arith) (λ z. omega arith) (λ z. omega arith))
+    ∙ frames-alike after room (at + 8) (at + 8) (countOf room at) word
+  where
+    word : (k : ℕ) → k < countOf room at → getD after (at + 8 + k) 0 ≡ getD room (at + 8 + k) 0
+    word k l =
+        ap (λ (j : ℕ). getD after j 0) {x = at + 8 + k} {y = at + (8 + k)} (omega arith)
+        ∙ e (8 + k) (omega arith) (λ z. omega arith) (λ z. omega arith)
+        ∙ ap (λ (j : ℕ). getD room j 0) {x = at + (8 + k)} {y = at + 8 + k} (omega arith)
+
+module _ {f : Files} {us : List Term} {T : Truth} {s : ℕ} {room : List ℕ} {after : List ℕ} {at : ℕ} where
+  -- a slot with the same entry and heights that are true is right
+  pub right-heights : (R : Right f us T s room at) → Entry room after at
+      → (0 < failedAt after at → T s (parametersOf room at) (failedAt after at) (replacedAtom us (bindingsAt room (slotSpot room at)) (R .atom)) ≡ false)
+      → (0 < provedAt after at → T s (parametersOf room at) (provedAt after at) (replacedAtom us (bindingsAt room (slotSpot room at)) (R .atom)) ≡ true)
+      → Right f us T s after at
+  right-heights R e no′ yes′ =
+      let p : parametersOf after at ≡ parametersOf room at = e 4 (omega arith) (λ z. omega arith) (λ z. omega arith) in
+      let c : countOf after at ≡ countOf room at = e 2 (omega arith) (λ z. omega arith) (λ z. omega arith) in
+      let x : replacedAtom us (bindingsAt after (slotSpot after at)) (R .atom) ≡ replacedAtom us (bindingsAt room (slotSpot room at)) (R .atom) = ap (λ (bs : Bindings). replacedAtom us bs (R .atom)) (entry-bindings room after at (R .few) e) in
+      record {
+        few = omega (arith, c, R .few);
+        atom = R .atom;
+        here = subst (λ (y : Spot). AtomAt (f .rules) (f .goal) (f .terms) y (R .atom)) (sym (entry-spot room after at e)) (R .here);
+        failed = λ h. ap (λ (q : ℕ). T s q (failedAt after at) (replacedAtom us (bindingsAt after (slotSpot after at)) (R .atom))) p ∙ ap (T s (parametersOf room at) (failedAt after at)) x ∙ no′ h;
+        proved = λ h. ap (λ (q : ℕ). T s q (provedAt after at) (replacedAtom us (bindingsAt after (slotSpot after at)) (R .atom))) p ∙ ap (T s (parametersOf room at) (provedAt after at)) x ∙ yes′ h;
+      }
+
+  -- a slot with the same words is right
+  pub right-alike : Right f us T s room at → ((k : ℕ) → k < 16 → getD after (at + k) 0 ≡ getD room (at + k) 0) → Right f us T s after at
+  right-alike R e =
+      let x = replacedAtom us (bindingsAt room (slotSpot room at)) (R .atom) in
+      let p = parametersOf room at in
+      right-heights R (λ k l n m. e k l)
+      (λ h. ap (λ (q : ℕ). T s p q x) (e 5 (omega arith)) ∙ R .failed (subst (λ (q : ℕ). 0 < q) (e 5 (omega arith)) h))
+      (λ h. ap (λ (q : ℕ). T s p q x) (e 6 (omega arith)) ∙ R .proved (subst (λ (q : ℕ). 0 < q) (e 6 (omega arith)) h))
+
+-- and so it is of another truth that agrees there
+pub right-truth : {f : Files} {us : List Term} {T T′ : Truth} {s : ℕ} {room : List ℕ} {at : ℕ} → Right f us T s room at → ((p h : ℕ) (a : Atom) → T′ s p h a ≡ T s p h a) → Right f us T′ s room at
+right-truth R e = record { few = R .few; atom = R .atom; here = R .here; failed = λ h. e _ _ _ ∙ R .failed h; proved = λ h. e _ _ _ ∙ R .proved h }
+
+slot-length : {n m at : ℕ} → n ≡ m → Slot n at → Slot m at
+slot-length {at = at} e S = subst (λ (k : ℕ). Slot k at) e S
+
+module _ {f : Files} {us : List Term} {T : Truth} {m : ℕ} {room after : List ℕ} where
+  -- the table speaks of its own words only
+  pub good-kept : Good f us T m room → length after ≡ length room → ((i : ℕ) → tableWord ≤ i → getD after i 0 ≡ getD room i 0) → Good f us T m after
+  good-kept g e k at s S h l =
+      let z = S .first in
+      right-alike (g at s (slot-length e S) (sym (k (at + 3) (omega arith)) ∙ h) l) (λ j b. k (at + j) (omega arith))
+
+  -- one slot is changed to one that is right, if it is spoken of
+  pub good-changed : (o : ℕ) → o % 16 ≡ 0 → Good f us T m room → length after ≡ length room → ((i : ℕ) → (o ≤ i → i < o + 16 → ⊥) → getD after i 0 ≡ getD room i 0)
+      → ((s : ℕ) → markOf after o ≡ s + 1 → s ≤ m → Right f us T s after o) → Good f us T m after
+  good-changed o step g e k r at s S h l = go (eqb at o) refl
+    where
+      go : (b : Bool) → eqb at o ≡ b → Right f us T s after at
+      go true q =
+          let z = eqb-true at o q in
+          subst (λ (i : ℕ). Right f us T s after i) (sym z) (r s (subst (λ (i : ℕ). markOf after i ≡ s + 1) z h) l)
+      go false q =
+          let n = eqb-false at o q in
+          let t = S .step in
+          let apart : (j : ℕ) → j < 16 → getD after (at + j) 0 ≡ getD room (at + j) 0 = λ j b. k (at + j) (λ x y. n (omega arith)) in
+          right-alike (g at s (slot-length e S) (sym (apart 3 (omega arith)) ∙ h) l) apart
+
+-- what is right for some supposed clauses is so for fewer
+pub good-fewer : {f : Files} {us : List Term} {T : Truth} {m n : ℕ} {room : List ℕ} → n ≤ m → Good f us T m room → Good f us T n room
+good-fewer b g at s S h l = g at s S h (omega arith)
+
+-- a table all of whose words are 0 is right
+pub good-zero : (f : Files) (us : List Term) (T : Truth) (m : ℕ) (room : List ℕ) → ((i : ℕ) → tableWord ≤ i → getD room i 0 ≡ 0) → Good f us T m room
+good-zero f us T m room z at s S h l =
+    let e = z (at + 3) (omega (arith, S .first)) in
+    absurd (omega arith)
+
+module _ {f : Files} {room : List ℕ} {w : Where} {at : ℕ} (t : This f room w at) where
+  pub this-slot : at % 16 ≡ 0 → Slot (length room) at
+  this-slot e = record { first = t .first; step = e; inside = t .inside }
+
+  module _ {us : List Term} {T : Truth} (a : Atom) (R : Right f us T (w .supposed) room at) (C : CandidatesIn room (f .terms) us) (A : AtomAt (f .rules) (f .goal) (f .terms) (w .goal) a) where
+    -- the atoms compared are equal, variables replaced
+    pub this-atom : replacedAtom us (bindingsAt room (slotSpot room at)) (R .atom) ≡ replacedAtom us (bindingsAt room (w .goal)) a
+    this-atom =
+        same-atoms-equal (replacedAtom us (bindingsAt room (slotSpot room at)) (R .atom)) (replacedAtom us (bindingsAt room (w .goal)) a)
+        (sym (t .same us (R .atom) a C (R .here) A))
+
+    -- so what is true of one is true of the other
+    pub this-true : (h : ℕ) → T (w .supposed) (parametersOf room at) h (replacedAtom us (bindingsAt room (slotSpot room at)) (R .atom)) ≡ T (w .supposed) (w .parameters) h (replacedAtom us (bindingsAt room (w .goal)) a)
+    this-true h =
+        ap (λ (p : ℕ). T (w .supposed) p h (replacedAtom us (bindingsAt room (slotSpot room at)) (R .atom))) (t .parameters)
+        ∙ ap (T (w .supposed) (w .parameters) h) this-atom
+
+-- what fails within a height fails within a smaller one
+falls : (T : Truth) (s p h h′ : ℕ) (a : Atom) → Rises T → T s p h′ a ≡ false → h ≤ h′ → T s p h a ≡ false
+falls T s p h h′ a up e l = go (T s p h a) refl
+  where
+    go : (b : Bool) → T s p h a ≡ b → T s p h a ≡ false
+    go true q = absurd (false≢true (sym e ∙ up s p h h′ a q l))
+    go false q = q
+
+module _ (f : Files) (room : List ℕ) (w : Where) (height at : ℕ) where
+  pub recalls-nothing : Recalls f room w height at Unknown
+  recalls-nothing us T a e up g C A = tt
+
+  -- a failure is believed at most up to its height
+  pub recalls-no : This f room w at → (height ≡ 0 → ⊥) → height ≤ failedAt room at → Recalls f room w height at No
+  recalls-no t n l us T a e up g C A =
+      let R = g at (w .supposed) (this-slot t e) (t .supposed) (omega arith) in
+      falls T (w .supposed) (w .parameters) height (failedAt room at) (replacedAtom us (bindingsAt room (w .goal)) a) up
+      (sym (this-true t a R C A (failedAt room at)) ∙ R .failed (omega arith)) l
+
+  -- a success from its height on
+  pub recalls-yes : This f room w at → (provedAt room at ≡ 0 → ⊥) → provedAt room at ≤ height → Recalls f room w height at Yes
+  recalls-yes t n l us T a e up g C A =
+      let R = g at (w .supposed) (this-slot t e) (t .supposed) (omega arith) in
+      up (w .supposed) (w .parameters) (provedAt room at) height (replacedAtom us (bindingsAt room (w .goal)) a)
+      (sym (this-true t a R C A (provedAt room at)) ∙ R .proved (omega arith)) l

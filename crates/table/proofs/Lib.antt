@@ -1,0 +1,4 @@
+pub mod GoodLaws
+pub mod SlotLaws
+pub mod EntryLaws
+pub mod ForgetLaws

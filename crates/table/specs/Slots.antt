@@ -1,0 +1,68 @@
+-- The table's slots in what is left of the work room (document 02, Three): which words a slot has and what each holds. A slot is 16 words and begins at a multiple of 16, from word 3,712 on:
+-- the source, the offset and the number of bindings of an atom, the supposed clauses and one more (0: the slot is empty), the parameters, the height at which it failed and the height at which it is proved (0: none), and from the ninth word on its bindings, at most 8.
+-- So a slot is itself a spot.
+use Prim.Native.Nat.{ℕ, _+_, _-_, _*_, _/_, _%_, _≤_, _<_}
+use mathlib.Core.Path.{_≡_}
+use mathlib.Core.Bool.{Bool, true, false}
+use mathlib.Core.List.{List, [], _∷_}
+use lib.Dec.{eqb, ltb}
+use lib.ListN.{length, getD, set}
+use lib.Seq.{sets}
+use Rattle.basics.specs.Choice.{choose}
+use Rattle.room.specs.Frame.{held, copied}
+use Rattle.room.specs.Spot.{sourceNumber, sourceOf}
+use Rattle.room.specs.Where.{plus}
+use Rattle.room.specs.declared.Spot.{Spot}
+use Rattle.room.specs.declared.Where.{Where}
+
+-- the first word of the table
+abbrev pub tableWord : ℕ
+tableWord = 3712
+
+abbrev pub slotWords : ℕ
+slotWords = 16
+
+-- a slot begins at a word of a room of so many words
+pub record Slot (words at : ℕ) : Type 0 where
+  pub first : tableWord ≤ at
+  pub step : at % 16 ≡ 0
+  pub inside : at + 16 ≤ words
+
+-- the slot of a key, in a room of so many words; 0 where there is none
+unfoldable pub slotFor : ℕ → ℕ → ℕ
+slotFor words key = choose (ltb words 3728) 0 (tableWord + slotWords * (key % ((words - tableWord) / slotWords)))
+
+-- a slot's words
+abbrev pub countOf : List ℕ → ℕ → ℕ
+countOf room at = getD room (at + 2) 0
+
+abbrev pub markOf : List ℕ → ℕ → ℕ
+markOf room at = getD room (at + 3) 0
+
+abbrev pub parametersOf : List ℕ → ℕ → ℕ
+parametersOf room at = getD room (at + 4) 0
+
+abbrev pub failedAt : List ℕ → ℕ → ℕ
+failedAt room at = getD room (at + 5) 0
+
+abbrev pub provedAt : List ℕ → ℕ → ℕ
+provedAt room at = getD room (at + 6) 0
+
+-- a slot as the spot of its atom
+abbrev pub slotSpot : List ℕ → ℕ → Spot
+slotSpot room at = record { source = sourceOf (getD room (at + 0) 0); at = getD room (at + 1) 0; base = at + 8; count = getD room (at + 2) 0 }
+
+-- the words of a slot before its bindings, for an atom of which nothing is known yet
+abbrev pub entryWords : Where → List ℕ
+entryWords w = sourceNumber (w .goal .source) ∷ held (w .goal .at) ∷ held (w .goal .count) ∷ held (plus (w .supposed) 1) ∷ held (w .parameters) ∷ 0 ∷ 0 ∷ []
+
+-- the room after an atom is entered in a slot, and after what is known of it is noted there
+unfoldable pub entered : List ℕ → Where → ℕ → List ℕ
+entered room w at = copied (sets room at (entryWords w)) (w .goal .base) (w .goal .count) (at + 8)
+
+unfoldable pub noted : List ℕ → ℕ → ℕ → Bool → List ℕ
+noted room at height found = set room (at + choose found 6 5) (held height)
+
+-- the room after a slot is emptied, if what it holds was found under so many supposed clauses
+unfoldable pub emptied : List ℕ → ℕ → ℕ → List ℕ
+emptied room at supposed = choose (eqb (markOf room at) (supposed + 1)) (set room (at + 3) 0) room

@@ -1,0 +1,116 @@
+// Entries kept in the table and forgotten. Nothing below the table is written.
+use crate::asked::is_this;
+use crate::slot::inside;
+use crate::words::hold;
+use crate::words::marks;
+use crate::words::put;
+use crate::words::source_number;
+use crate::words::word;
+use room::Where;
+use room::copy;
+use room::plus;
+ghost use mathlib.Core.Path.{_≡_};
+ghost use Prim.Native.Nat.{_+_, _≤_};
+ghost use lib.ListN.{length};
+ghost use Rattle.room.specs.Where.{filesOf};
+ghost use Rattle.table.specs.Slots.{entered, noted, emptied};
+ghost use Rattle.table.specs.Recall.{FitsSlot, TableOnly, Keeps, Forgotten, Forgets};
+
+// Whether an atom's numbers fit a slot's words, and its bindings stand below the table.
+fn fits(w: Where, height: usize) -> bool
+    ensures { λ r. ⌜ FitsSlot w height r ⌝ }
+{
+    let x = w.goal;
+    if 8 < x.count {
+        return false;
+    }
+    if 3704 < x.base {
+        return false;
+    }
+    if 0xffff_ffff < x.at {
+        return false;
+    }
+    if 0xffff_fffe < w.supposed {
+        return false;
+    }
+    if 0xffff_ffff < w.parameters {
+        return false;
+    }
+    height <= 0xffff_ffff
+}
+
+// The atom at a place entered in a slot; nothing is known of it yet.
+fn enter(room: &mut [u32], w: Where, at: usize)
+    ensures { λ _. ⌜ (at + 16 ≤ length (now (room .entry)) → now (room .exit) ≡ entered (now (room .entry)) w at) ⌝ }
+{
+    let x = w.goal;
+    let source = x.source;
+    put(room, at, 0, source_number(source));
+    put(room, at, 1, hold(x.at));
+    put(room, at, 2, hold(x.count));
+    put(room, at, 3, hold(plus(w.supposed, 1)));
+    put(room, at, 4, hold(w.parameters));
+    put(room, at, 5, 0);
+    put(room, at, 6, 0);
+    copy(room, x.base, x.count, plus(at, 8));
+}
+
+// The height noted at which a slot's atom is proved, or at which it failed.
+fn note(room: &mut [u32], at: usize, height: usize, found: bool)
+    ensures { λ _. ⌜ now (room .exit) ≡ noted (now (room .entry)) at height found ⌝ }
+{
+    if found {
+        put(room, at, 6, hold(height));
+        return;
+    }
+    put(room, at, 5, hold(height));
+}
+
+// Kept of the atom at a place: that it is proved within a height, or that it failed. An entry of the same atom stays and gets the height; any other makes room.
+pub fn keep<'a>(
+    rules: &'a [u8],
+    goal: &'a [u8],
+    terms: &'a [u8],
+    room: &mut [u32],
+    w: Where,
+    height: usize,
+    at: usize,
+    found: bool,
+)
+    ensures only { λ _. ⌜ TableOnly (now (room .entry)) (now (room .exit)) ⌝ }
+    ensures kept { λ _. ⌜ Keeps (filesOf (now (rules .entry)) (now (goal .entry)) (now (terms .entry))) (now (room .entry)) (now (room .exit)) w height at found ⌝ }
+{
+    if !inside(room.len(), at) {
+        return;
+    }
+    if !fits(w, height) {
+        return;
+    }
+    if is_this(rules, goal, terms, room, w, at) {
+        note(room, at, height, found);
+        return;
+    }
+    enter(room, w, at);
+    note(room, at, height, found);
+}
+
+// A slot emptied, if what it holds was found under so many supposed clauses.
+fn empty(room: &mut [u32], at: usize, supposed: usize)
+    ensures { λ _. ⌜ now (room .exit) ≡ emptied (now (room .entry)) at supposed ⌝ }
+{
+    if marks(word(room, at, 3), supposed) {
+        put(room, at, 3, 0);
+    }
+}
+
+// All slots emptied of what was found under so many supposed clauses, as when another clause is supposed there.
+pub fn forget(room: &mut [u32], supposed: usize)
+    ensures only { λ _. ⌜ TableOnly (now (room .entry)) (now (room .exit)) ⌝ }
+    ensures gone { λ _. ⌜ Forgets (now (room .entry)) (now (room .exit)) supposed ⌝ }
+{
+    let mut at: usize = 3712;
+    while inside(room.len(), at) {
+        empty(room, at, supposed);
+        at += 16;
+    }
+}
