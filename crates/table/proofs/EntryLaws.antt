@@ -42,16 +42,21 @@ seven-stored r r₀ r₁ r₂ r₃ r₄ r₅ r₆ i a b c d e f g e₀ e₁ e₂
     next : (k n : ℕ) → i + k ≡ n → i + k ≡ n
     next k n e = e
 
+-- an atom entered by the code's stores
+pub entered-is : (room r : List ℕ) (x : Spot) (supposed parameters at top : ℕ) → r ≡ sets room at (entryWords x supposed parameters) → top ≡ at + 8 → copied r (x .base) (x .count) top ≡ entered room x supposed parameters at
+unfolding entered
+entered-is room r x supposed parameters at top e t = ap₂ (λ (l : List ℕ) (i : ℕ). copied l (x .base) (x .count) i) e t
+
+-- and a height noted
+pub noted-as : (room : List ℕ) (at height : ℕ) {r : List ℕ} {k : ℕ} {found : Bool} → found ≡ true → k ≡ held height → r ≡ set room (at + 6) k → r ≡ noted room at height found
+unfolding noted
+noted-as room at height e h q = q ∙ ap (set room (at + 6)) h ∙ rw e refl
+
+pub noted-not : (room : List ℕ) (at height : ℕ) {r : List ℕ} {k : ℕ} {found : Bool} → found ≡ false → k ≡ held height → r ≡ set room (at + 5) k → r ≡ noted room at height found
+unfolding noted
+noted-not room at height e h q = q ∙ ap (set room (at + 5)) h ∙ rw e refl
+
 module _ (room : List ℕ) (at height : ℕ) where
-  -- a height noted writes one word
-  pub noted-yes : noted room at height true ≡ set room (at + 6) (held height)
-  unfolding noted
-  noted-yes = refl
-
-  pub noted-no : noted room at height false ≡ set room (at + 5) (held height)
-  unfolding noted
-  noted-no = refl
-
   noted-other : (found : Bool) (i : ℕ) → (at + 5 ≡ i → ⊥) → (at + 6 ≡ i → ⊥) → getD (noted room at height found) i 0 ≡ getD room i 0
   unfolding noted
   noted-other true i p q = getD-set-other room (at + 6) i (held height) 0 (λ e. q (sym e))
@@ -87,7 +92,7 @@ module _ (room : List ℕ) (at height : ℕ) where
   noted-only found l = record { long = noted-length found; below = λ i b. noted-other found i (λ e. omega arith) (λ e. omega arith) }
 
 -- an entry of the same atom gets the height
-pub keeps-this : (f : Files) (room : List ℕ) (w : Where) (height at : ℕ) (found : Bool) → This f room w at → Fitting w height → Keeps f room (noted room at height found) w height at found
+pub keeps-this : (f : Files) (room : List ℕ) (w : Where) (height at : ℕ) (found : Bool) → This f room w at → Fitting (w .goal) (w .supposed) (w .parameters) height → Keeps f room (noted room at height found) w height at found
 keeps-this f room w height at found t fit us T m a step few g C A q =
     let R = g at (w .supposed) (this-slot t step) (t .supposed) few in
     let mark : markOf (noted room at height found) at ≡ w .supposed + 1 = noted-other room at height found (at + 3) (λ e. omega arith) (λ e. omega arith) ∙ t .supposed in
@@ -102,15 +107,15 @@ keeps-none f room w height at found us T m a step few g C A q = g
 pub only-none : (room : List ℕ) → TableOnly room room
 only-none room = record { long = refl; below = λ i l. refl }
 
-module _ (room : List ℕ) (w : Where) (height at : ℕ) (fit : Fitting w height) (low : tableWord ≤ at) (inside : at + 16 ≤ length room) where
+module _ (room : List ℕ) (w : Where) (height at : ℕ) (fit : Fitting (w .goal) (w .supposed) (w .parameters) height) (low : tableWord ≤ at) (inside : at + 16 ≤ length room) where
   abbrev plain : List ℕ
-  plain = sets room at (entryWords w)
+  plain = sets room at (entryWords (w .goal) (w .supposed) (w .parameters))
 
   abbrev n : ℕ
   n = w .goal .count
 
   plain-length : length plain ≡ length room
-  plain-length = length-sets room at (entryWords w)
+  plain-length = length-sets room at (entryWords (w .goal) (w .supposed) (w .parameters))
 
   frame-below : w .goal .base + n ≤ at + 8
   frame-below = omega (arith, fit .below)
@@ -118,22 +123,22 @@ module _ (room : List ℕ) (w : Where) (height at : ℕ) (fit : Fitting w height
   frame-inside : at + 8 + n ≤ length plain
   frame-inside = omega (arith, plain-length, fit .few)
 
-  is-copied : entered room w at ≡ copied plain (w .goal .base) n (at + 8)
+  is-copied : entered room (w .goal) (w .supposed) (w .parameters) at ≡ copied plain (w .goal .base) n (at + 8)
   unfolding entered
   is-copied = refl
 
-  entered-length : length (entered room w at) ≡ length room
+  entered-length : length (entered room (w .goal) (w .supposed) (w .parameters) at) ≡ length room
   entered-length = ap length is-copied ∙ copy-length plain (w .goal .base) n (at + 8) frame-below frame-inside ∙ plain-length
 
   -- below the bindings are the words before the copy
-  entered-low : (i : ℕ) → i < at + 8 → getD (entered room w at) i 0 ≡ getD plain i 0
+  entered-low : (i : ℕ) → i < at + 8 → getD (entered room (w .goal) (w .supposed) (w .parameters) at) i 0 ≡ getD plain i 0
   entered-low i l = ap (λ (r : List ℕ). getD r i 0) is-copied ∙ word-kept (copied plain (w .goal .base) n (at + 8)) plain (at + 8) i (copy-kept plain (w .goal .base) n (at + 8) frame-below frame-inside) l
 
-  entered-word : (k : ℕ) → k < 7 → getD (entered room w at) (at + k) 0 ≡ getD (entryWords w) k 0
-  entered-word k l = entered-low (at + k) (omega arith) ∙ sets-at (entryWords w) room at k (omega arith) (omega arith)
+  entered-word : (k : ℕ) → k < 7 → getD (entered room (w .goal) (w .supposed) (w .parameters) at) (at + k) 0 ≡ getD (entryWords (w .goal) (w .supposed) (w .parameters)) k 0
+  entered-word k l = entered-low (at + k) (omega arith) ∙ sets-at (entryWords (w .goal) (w .supposed) (w .parameters)) room at k (omega arith) (omega arith)
 
   -- above them those of the room
-  entered-high : (i : ℕ) → at + 16 ≤ i → getD (entered room w at) i 0 ≡ getD room i 0
+  entered-high : (i : ℕ) → at + 16 ≤ i → getD (entered room (w .goal) (w .supposed) (w .parameters) at) i 0 ≡ getD room i 0
   entered-high i l =
       let b = w .goal .base in
       let few = fit .few in
@@ -144,38 +149,38 @@ module _ (room : List ℕ) (w : Where) (height at : ℕ) (fit : Fitting w height
       ∙ ap (λ (r : List ℕ). getD r (i - (at + 8 + n)) 0) (drop-paste plain (at + 8) (drop b plain) n (omega (arith, frame-inside)) (omega (arith, length-drop b plain, frame-inside, frame-below)))
       ∙ getD-drop (at + 8 + n) plain (i - (at + 8 + n)) 0
       ∙ ap (λ (j : ℕ). getD plain j 0) (sym e)
-      ∙ sets-after (entryWords w) room at i (omega arith)
+      ∙ sets-after (entryWords (w .goal) (w .supposed) (w .parameters)) room at i (omega arith)
 
-  entered-below : (i : ℕ) → i < at → getD (entered room w at) i 0 ≡ getD room i 0
-  entered-below i l = entered-low i (omega arith) ∙ sets-before (entryWords w) room at i l
+  entered-below : (i : ℕ) → i < at → getD (entered room (w .goal) (w .supposed) (w .parameters) at) i 0 ≡ getD room i 0
+  entered-below i l = entered-low i (omega arith) ∙ sets-before (entryWords (w .goal) (w .supposed) (w .parameters)) room at i l
 
-  entered-frame : bindingsIn (entered room w at) (at + 8) n ≡ bindingsAt room (w .goal)
+  entered-frame : bindingsIn (entered room (w .goal) (w .supposed) (w .parameters) at) (at + 8) n ≡ bindingsAt room (w .goal)
   entered-frame =
       ap (λ (r : List ℕ). bindingsIn r (at + 8) n) is-copied
       ∙ frame-copied plain (w .goal .base) n (at + 8) frame-below frame-inside
-      ∙ frames-alike plain room (w .goal .base) (w .goal .base) n (λ k l. sets-before (entryWords w) room at (w .goal .base + k) (omega (arith, fit .below)))
+      ∙ frames-alike plain room (w .goal .base) (w .goal .base) n (λ k l. sets-before (entryWords (w .goal) (w .supposed) (w .parameters)) room at (w .goal .base + k) (omega (arith, fit .below)))
 
   -- the slot's spot is the atom's, but for its frame
   abbrev there : Spot
   there = record { source = w .goal .source; at = w .goal .at; base = at + 8; count = n }
 
-  entered-count : countOf (entered room w at) at ≡ n
+  entered-count : countOf (entered room (w .goal) (w .supposed) (w .parameters) at) at ≡ n
   entered-count = entered-word 2 (omega arith) ∙ omega (arith, fit .few)
 
-  entered-spot : slotSpot (entered room w at) at ≡ there
+  entered-spot : slotSpot (entered room (w .goal) (w .supposed) (w .parameters) at) at ≡ there
   entered-spot = spot-alike (ap sourceOf (entered-word 0 (omega arith)) ∙ source-again (w .goal .source)) (entered-word 1 (omega arith) ∙ omega (arith, fit .offset)) refl entered-count
 
-  entered-bindings : bindingsAt (entered room w at) (slotSpot (entered room w at) at) ≡ bindingsAt room (w .goal)
-  entered-bindings = ap (bindingsIn (entered room w at) (at + 8)) entered-count ∙ entered-frame
+  entered-bindings : bindingsAt (entered room (w .goal) (w .supposed) (w .parameters) at) (slotSpot (entered room (w .goal) (w .supposed) (w .parameters) at) at) ≡ bindingsAt room (w .goal)
+  entered-bindings = ap (bindingsIn (entered room (w .goal) (w .supposed) (w .parameters) at) (at + 8)) entered-count ∙ entered-frame
 
-  entered-mark : markOf (entered room w at) at ≡ w .supposed + 1
-  entered-mark = entered-word 3 (omega arith) ∙ omega (arith, fit .supposed)
+  entered-mark : markOf (entered room (w .goal) (w .supposed) (w .parameters) at) at ≡ w .supposed + 1
+  entered-mark = entered-word 3 (omega arith) ∙ omega (arith, fit .clauses)
 
-  entered-parameters : parametersOf (entered room w at) at ≡ w .parameters
-  entered-parameters = entered-word 4 (omega arith) ∙ omega (arith, fit .parameters)
+  entered-parameters : parametersOf (entered room (w .goal) (w .supposed) (w .parameters) at) at ≡ w .parameters
+  entered-parameters = entered-word 4 (omega arith) ∙ omega (arith, fit .opened)
 
   -- an atom entered, of which nothing is known
-  entered-right : (f : Files) (us : List Term) (T : Truth) (a : Atom) → AtomAt (f .rules) (f .goal) (f .terms) (w .goal) a → Right f us T (w .supposed) (entered room w at) at
+  entered-right : (f : Files) (us : List Term) (T : Truth) (a : Atom) → AtomAt (f .rules) (f .goal) (f .terms) (w .goal) a → Right f us T (w .supposed) (entered room (w .goal) (w .supposed) (w .parameters) at) at
   entered-right f us T a A = record {
     few = omega (arith, entered-count, fit .few);
     atom = a;
@@ -184,29 +189,29 @@ module _ (room : List ℕ) (w : Where) (height at : ℕ) (fit : Fitting w height
     proved = λ h. let z = entered-word 6 (omega arith) in absurd (omega arith);
   }
 
-  pub entered-only : (found : Bool) → TableOnly room (noted (entered room w at) at height found)
+  pub entered-only : (found : Bool) → TableOnly room (noted (entered room (w .goal) (w .supposed) (w .parameters) at) at height found)
   entered-only found =
-      let o = noted-only (entered room w at) at height found low in
+      let o = noted-only (entered room (w .goal) (w .supposed) (w .parameters) at) at height found low in
       record { long = o .long ∙ entered-length; below = λ i l. o .below i l ∙ entered-below i (omega arith) }
 
   -- a new entry, with what is true of it
-  pub keeps-new : (f : Files) (found : Bool) → Keeps f room (noted (entered room w at) at height found) w height at found
+  pub keeps-new : (f : Files) (found : Bool) → Keeps f room (noted (entered room (w .goal) (w .supposed) (w .parameters) at) at height found) w height at found
   unfolding entered-right
   keeps-new f found us T m a step few g C A q =
       let R = entered-right f us T a A in
-      let room′ = entered room w at in
+      let room′ = entered room (w .goal) (w .supposed) (w .parameters) at in
       let mark : markOf (noted room′ at height found) at ≡ w .supposed + 1 = noted-other room′ at height found (at + 3) (λ e. omega arith) (λ e. omega arith) ∙ entered-mark in
       let true′ = ap (λ (p : ℕ). T (w .supposed) p height (replacedAtom us (bindingsAt room′ (slotSpot room′ at)) a)) entered-parameters ∙ ap (λ (bs : Bindings). T (w .supposed) (w .parameters) height (replacedAtom us bs a)) entered-bindings ∙ q in
       let after = right-noted room′ at height found R (omega (arith, entered-length)) (fit .high) true′ in
       good-changed at step g (noted-length room′ at height found ∙ entered-length) apart (λ s h l. subst (λ (k : ℕ). Right f us T k (noted room′ at height found) at) (omega arith) after)
     where
-      apart : (i : ℕ) → (at ≤ i → i < at + 16 → ⊥) → getD (noted (entered room w at) at height found) i 0 ≡ getD room i 0
-      apart i z = noted-other (entered room w at) at height found i (λ e. z (omega arith) (omega arith)) (λ e. z (omega arith) (omega arith)) ∙ go (ltb i at) refl
+      apart : (i : ℕ) → (at ≤ i → i < at + 16 → ⊥) → getD (noted (entered room (w .goal) (w .supposed) (w .parameters) at) at height found) i 0 ≡ getD room i 0
+      apart i z = noted-other (entered room (w .goal) (w .supposed) (w .parameters) at) at height found i (λ e. z (omega arith) (omega arith)) (λ e. z (omega arith) (omega arith)) ∙ go (ltb i at) refl
         where
-          far : (b : Bool) → ltb i (at + 16) ≡ b → at ≤ i → getD (entered room w at) i 0 ≡ getD room i 0
+          far : (b : Bool) → ltb i (at + 16) ≡ b → at ≤ i → getD (entered room (w .goal) (w .supposed) (w .parameters) at) i 0 ≡ getD room i 0
           far true e l = absurd (z l (ltb-true i (at + 16) e))
           far false e l = entered-high i (ltb-false i (at + 16) e)
 
-          go : (b : Bool) → ltb i at ≡ b → getD (entered room w at) i 0 ≡ getD room i 0
+          go : (b : Bool) → ltb i at ≡ b → getD (entered room (w .goal) (w .supposed) (w .parameters) at) i 0 ≡ getD room i 0
           go true e = entered-below i (ltb-true i at e)
           go false e = let l = ltb-false i at e in far (ltb i (at + 16)) refl l

@@ -24,6 +24,13 @@ pub emptied-none : (room : List ℕ) (at supposed : ℕ) → eqb (markOf room at
 unfolding emptied
 emptied-none room at supposed e = rw e refl
 
+-- by the code's test
+pub emptied-tested : (room : List ℕ) (at supposed : ℕ) {r : List ℕ} {n : ℕ} {b : Bool} → n ≡ markOf room at → b ≡ eqb n (supposed + 1) → b ≡ true → r ≡ set room (at + 3) 0 → r ≡ emptied room at supposed
+emptied-tested room at supposed e t q h = h ∙ emptied-some room at supposed (ap (λ (k : ℕ). eqb k (supposed + 1)) (sym e) ∙ sym t ∙ q)
+
+pub emptied-passed : (room : List ℕ) (at supposed : ℕ) {n : ℕ} {b : Bool} → n ≡ markOf room at → b ≡ eqb n (supposed + 1) → b ≡ false → room ≡ emptied room at supposed
+emptied-passed room at supposed e t q = emptied-none room at supposed (ap (λ (k : ℕ). eqb k (supposed + 1)) (sym e) ∙ sym t ∙ q)
+
 pub forgotten-first : (room : List ℕ) (supposed : ℕ) → Forgotten room room supposed tableWord
 forgotten-first room supposed = record { long = refl; each = λ i. Emptied.same refl; none = λ at S l. absurd (omega (arith, S .first)) }
 

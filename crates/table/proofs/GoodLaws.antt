@@ -23,7 +23,7 @@ use Rattle.table.specs.Slots.{tableWord, Slot, slotSpot, countOf, markOf
 use Rattle.table.specs.Good.{Truth, Rises, Right, Good}
 use Rattle.table.specs.declared.Recalled.{Recalled}
 use Rattle.table.specs.declared.Recalled.the-variants.{Unknown, No, Yes}
-use Rattle.table.specs.Recall.{This, Says, Recalls}
+use Rattle.table.specs.Recall.{This, IsThis, Says, Recalls}
 
 -- the words of a slot but its heights are the same: so are its spot and its bindings
 abbrev pub Entry : List ℕ → List ℕ → ℕ → Type 0
@@ -125,6 +125,17 @@ module _ {f : Files} {room : List ℕ} {w : Where} {at : ℕ} (t : This f room w
     this-true h =
         ap (λ (p : ℕ). T (w .supposed) p h (replacedAtom us (bindingsAt room (slotSpot room at)) (R .atom))) (t .parameters)
         ∙ ap (T (w .supposed) (w .parameters) h) this-atom
+
+-- a slot's words and its spot, as the code has found them
+pub this-is : (f : Files) (room : List ℕ) (w : Where) (at : ℕ) {r b : Bool} {y : Spot} {n p : ℕ} → (tableWord ≤ at) × (at + 16 ≤ length room) → n ≡ markOf room at → b ≡ eqb n (w .supposed + 1) → b ≡ true → p ≡ parametersOf room at → p ≡ w .parameters
+    → (at + 16 ≤ length room → y ≡ slotSpot room at) → SameAtoms (f .rules) (f .goal) (f .terms) room y (w .goal) r → IsThis f room w at r
+this-is f room w at {r} {b} {y} {n} {p} l m t e q z h S yes′ = record {
+  first = l .0;
+  inside = l .1;
+  supposed = sym m ∙ eqb-true n (w .supposed + 1) (sym t ∙ e);
+  parameters = sym q ∙ z;
+  same = subst (λ (x : Spot). SameAtoms (f .rules) (f .goal) (f .terms) room x (w .goal) true) (h (l .1)) (subst (λ (x : Bool). SameAtoms (f .rules) (f .goal) (f .terms) room y (w .goal) x) yes′ S);
+}
 
 -- what fails within a height fails within a smaller one
 falls : (T : Truth) (s p h h′ : ℕ) (a : Atom) → Rises T → T s p h′ a ≡ false → h ≤ h′ → T s p h a ≡ false

@@ -3,6 +3,7 @@ use Prim.Native.Nat.{ℕ, _+_, _-_, _*_, _/_, _%_, _≤_, _<_}
 use mathlib.Core.Path.{_≡_, refl, sym, _∙_, ap}
 use mathlib.Core.Bool.{Bool, true, false, _&&_}
 use native.Mathlib.Omega.{arith}
+use native.Mathlib.Nat.{mod-lt}
 use lib.Dec.{eqb, leb}
 use borrow.Author.Tests.{lt-ltb, le-ltb, le-leb, lt-leb, leb-true, leb-false, eq-eqb, ne-eqb, eqb-true, eqb-false}
 use Rattle.basics.specs.Choice.{both-true}
@@ -15,6 +16,13 @@ slot-none n key h = (rw (lt-ltb n 3728 h) refl, omega arith)
 pub slot-some : (n key : ℕ) → 3728 ≤ n → (3712 + 16 * (key % ((n - 3712) / 16)) ≡ slotFor n key) × ((3712 + 16 * (key % ((n - 3712) / 16))) % 16 ≡ 0)
 unfolding slotFor
 slot-some n key h = (rw (le-ltb n 3728 h) refl, omega arith)
+
+-- so its number fits a machine word, as the room's length does
+pub slot-fits : (n key : ℕ) → 3728 ≤ n → 3712 + 16 * (key % ((n - 3712) / 16)) + 16 ≤ n
+slot-fits n key h =
+    let some : 0 < (n - 3712) / 16 = omega arith in
+    let z : key % ((n - 3712) / 16) < (n - 3712) / 16 = mod-lt key some in
+    omega arith
 
 pub outside-low : (n at : ℕ) → at < 3712 → false ≡ (leb tableWord at && leb (at + 16) n)
 outside-low n at h = rw (lt-leb tableWord at h) refl

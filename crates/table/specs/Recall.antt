@@ -10,6 +10,7 @@ use Rattle.room.specs.Spot.{bindingsAt}
 use Rattle.room.specs.Table.{CandidatesIn}
 use Rattle.room.specs.Term.{AtomAt, SameAtoms}
 use Rattle.room.specs.Where.{Files}
+use Rattle.room.specs.declared.Spot.{Spot}
 use Rattle.room.specs.declared.Where.{Where}
 use Rattle.table.specs.declared.Recalled.{Recalled}
 use Rattle.table.specs.declared.Recalled.the-variants.{Unknown, No, Yes}
@@ -39,16 +40,16 @@ Recalls f room w height at r =
     → Says (T (w .supposed) (w .parameters) height (replacedAtom us (bindingsAt room (w .goal)) a)) r
 
 -- what a slot can hold: an atom with at most 8 bindings, which stand below the table, and numbers that fit a word
-pub record Fitting (w : Where) (height : ℕ) : Type 0 where
-  pub few : w .goal .count ≤ 8
-  pub below : w .goal .base + w .goal .count ≤ tableWord
-  pub offset : w .goal .at ≤ 4294967295
-  pub supposed : w .supposed < 4294967295
-  pub parameters : w .parameters ≤ 4294967295
+pub record Fitting (x : Spot) (supposed parameters height : ℕ) : Type 0 where
+  pub few : x .count ≤ 8
+  pub below : x .base + x .count ≤ tableWord
+  pub offset : x .at ≤ 4294967295
+  pub clauses : supposed < 4294967295
+  pub opened : parameters ≤ 4294967295
   pub high : height ≤ 4294967295
 
-abbrev pub FitsSlot : Where → ℕ → Bool → Type 0
-FitsSlot w height r = r ≡ true → Fitting w height
+abbrev pub FitsSlot : Spot → ℕ → ℕ → ℕ → Bool → Type 0
+FitsSlot x supposed parameters height r = r ≡ true → Fitting x supposed parameters height
 
 -- the words below the table, and how many there are, are as they were
 pub record TableOnly (before after : List ℕ) : Type 0 where

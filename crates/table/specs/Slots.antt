@@ -13,7 +13,6 @@ use Rattle.room.specs.Frame.{held, copied}
 use Rattle.room.specs.Spot.{sourceNumber, sourceOf}
 use Rattle.room.specs.Where.{plus}
 use Rattle.room.specs.declared.Spot.{Spot}
-use Rattle.room.specs.declared.Where.{Where}
 
 -- the first word of the table
 abbrev pub tableWord : ℕ
@@ -53,12 +52,12 @@ abbrev pub slotSpot : List ℕ → ℕ → Spot
 slotSpot room at = record { source = sourceOf (getD room (at + 0) 0); at = getD room (at + 1) 0; base = at + 8; count = getD room (at + 2) 0 }
 
 -- the words of a slot before its bindings, for an atom of which nothing is known yet
-abbrev pub entryWords : Where → List ℕ
-entryWords w = sourceNumber (w .goal .source) ∷ held (w .goal .at) ∷ held (w .goal .count) ∷ held (plus (w .supposed) 1) ∷ held (w .parameters) ∷ 0 ∷ 0 ∷ []
+abbrev pub entryWords : Spot → ℕ → ℕ → List ℕ
+entryWords x supposed parameters = sourceNumber (x .source) ∷ held (x .at) ∷ held (x .count) ∷ held (plus supposed 1) ∷ held parameters ∷ 0 ∷ 0 ∷ []
 
 -- the room after an atom is entered in a slot, and after what is known of it is noted there
-unfoldable pub entered : List ℕ → Where → ℕ → List ℕ
-entered room w at = copied (sets room at (entryWords w)) (w .goal .base) (w .goal .count) (at + 8)
+unfoldable pub entered : List ℕ → Spot → ℕ → ℕ → ℕ → List ℕ
+entered room x supposed parameters at = copied (sets room at (entryWords x supposed parameters)) (x .base) (x .count) (at + 8)
 
 unfoldable pub noted : List ℕ → ℕ → ℕ → Bool → List ℕ
 noted room at height found = set room (at + choose found 6 5) (held height)

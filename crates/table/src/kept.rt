@@ -6,6 +6,7 @@ use crate::words::marks;
 use crate::words::put;
 use crate::words::source_number;
 use crate::words::word;
+use room::Spot;
 use room::Where;
 use room::copy;
 use room::plus;
@@ -17,10 +18,9 @@ ghost use Rattle.table.specs.Slots.{entered, noted, emptied};
 ghost use Rattle.table.specs.Recall.{FitsSlot, TableOnly, Keeps, Forgotten, Forgets};
 
 // Whether an atom's numbers fit a slot's words, and its bindings stand below the table.
-fn fits(w: Where, height: usize) -> bool
-    ensures { λ r. ⌜ FitsSlot w height r ⌝ }
+fn fits(x: Spot, supposed: usize, parameters: usize, height: usize) -> bool
+    ensures { λ r. ⌜ FitsSlot x supposed parameters height r ⌝ }
 {
-    let x = w.goal;
     if 8 < x.count {
         return false;
     }
@@ -30,26 +30,25 @@ fn fits(w: Where, height: usize) -> bool
     if 0xffff_ffff < x.at {
         return false;
     }
-    if 0xffff_fffe < w.supposed {
+    if 0xffff_fffe < supposed {
         return false;
     }
-    if 0xffff_ffff < w.parameters {
+    if 0xffff_ffff < parameters {
         return false;
     }
     height <= 0xffff_ffff
 }
 
-// The atom at a place entered in a slot; nothing is known of it yet.
-fn enter(room: &mut [u32], w: Where, at: usize)
-    ensures { λ _. ⌜ (at + 16 ≤ length (now (room .entry)) → now (room .exit) ≡ entered (now (room .entry)) w at) ⌝ }
+// An atom entered in a slot; nothing is known of it yet.
+fn enter(room: &mut [u32], x: Spot, supposed: usize, parameters: usize, at: usize)
+    ensures { λ _. ⌜ (at + 16 ≤ length (now (room .entry)) → now (room .exit) ≡ entered (now (room .entry)) x supposed parameters at) ⌝ }
 {
-    let x = w.goal;
     let source = x.source;
     put(room, at, 0, source_number(source));
     put(room, at, 1, hold(x.at));
     put(room, at, 2, hold(x.count));
-    put(room, at, 3, hold(plus(w.supposed, 1)));
-    put(room, at, 4, hold(w.parameters));
+    put(room, at, 3, hold(plus(supposed, 1)));
+    put(room, at, 4, hold(parameters));
     put(room, at, 5, 0);
     put(room, at, 6, 0);
     copy(room, x.base, x.count, plus(at, 8));
@@ -83,14 +82,14 @@ pub fn keep<'a>(
     if !inside(room.len(), at) {
         return;
     }
-    if !fits(w, height) {
+    if !fits(w.goal, w.supposed, w.parameters, height) {
         return;
     }
     if is_this(rules, goal, terms, room, w, at) {
         note(room, at, height, found);
         return;
     }
-    enter(room, w, at);
+    enter(room, w.goal, w.supposed, w.parameters, at);
     note(room, at, height, found);
 }
 
