@@ -1,7 +1,7 @@
 -- `enter` of src/kept.rt meets its contract. Assumes nothing.
-use lib.ListN.{set}
-use Prim.Native.Nat.{_+_}
-use mathlib.Core.Path.{ap, _∙_}
+use lib.ListN.{set, length}
+use Prim.Native.Nat.{_+_, _≤_, min}
+use mathlib.Core.Path.{_≡_, ap, _∙_}
 use Rattle.room.specs.Frame.{held}
 use Rattle.table.proofs.EntryLaws.{seven-stored, entered-is}
 use native.Mathlib.Omega.{arith}
@@ -76,9 +76,13 @@ plus-requires-2 c κs = search needs
 copy-requires : tie.Need-copy-requires
 copy-requires c κs = search needs
 
+-- the room is so short that the words of a slot in it have numbers
+short : (s : lts.Start (source-number-reads.Asked, source-number-reads.Learnt, put-reads.Asked, put-reads.Learnt, hold-reads.Asked, hold-reads.Learnt, plus-reads.Asked, plus-reads.Learnt, copy-reads.Asked, copy-reads.Learnt) reads.Pre reads.Post) → s .args .at + 16 ≤ length (s .args .room .now) → min (s .args .at + 8) 18446744073709551615 ≡ s .args .at + 8
+short s h = omega arith
+
 -- src/kept.rt:43:1
 same-length : tie.Need-same-length
-same-length c = search needs
+same-length c = c .before .before .copy .kept .0 ∙ c .before .before .before .before .before .before .before .put7 .kept .0 ∙ c .before .before .before .before .before .before .before .before .before .before .before .put6 .kept .0 ∙ c .before .before .before .before .before .before .before .before .before .before .before .before .before .before .before .put5 .kept .0 ∙ c .before .before .before .before .before .before .before .before .before .before .before .before .before .before .before .before .before .before .before .before .put4 .kept .0 ∙ c .before .before .before .before .before .before .before .before .before .before .before .before .before .before .before .before .before .before .before .before .before .before .before .before .before .before .put3 .kept .0 ∙ c .before .before .before .before .before .before .before .before .before .before .before .before .before .before .before .before .before .before .before .before .before .before .before .before .before .before .before .before .before .before .before .put2 .kept .0 ∙ c .before .before .before .before .before .before .before .before .before .before .before .before .before .before .before .before .before .before .before .before .before .before .before .before .before .before .before .before .before .before .before .before .before .before .before .before .put .kept .0
 
 -- src/kept.rt:43:1
 returns : tie.Need-returns
@@ -100,7 +104,7 @@ returns c = let x = c .before .before .before .before .before .before .before .b
     (c .before .before .before .before .before .before .before .before .before .before .before .before .before .before .before .put5 .ensures ∙ ap (set r3 (a + 4)) (c .before .before .before .before .before .before .before .before .before .before .before .before .before .before .before .before .hold4 .ensures))
     (c .before .before .before .before .before .before .before .before .before .before .before .put6 .ensures)
     (c .before .before .before .before .before .before .before .put7 .ensures))
-    (c .before .before .before .plus2 .ensures ∙ omega arith)
+    (c .before .before .before .plus2 .ensures ∙ short (c .before .before .before .before .before .before .before .before .before .before .before .before .before .before .before .before .before .before .before .before .before .before .before .before .before .before .before .before .before .before .before .before .before .before .before .before .before .before .before .before) h)
 
 pub enter-spec : {M : Type 1} → statement M
 enter-spec =

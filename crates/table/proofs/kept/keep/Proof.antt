@@ -1,6 +1,7 @@
 -- `keep` of src/kept.rt meets its contract. Assumes nothing.
 use borrow.Author.Tests.{not-false}
 use mathlib.Core.List.{List}
+use Prim.Native.Nat.{ℕ}
 use lib.ListN.{length}
 use Rattle.room.specs.Where.{filesOf}
 use Rattle.table.specs.Slots.{noted}
