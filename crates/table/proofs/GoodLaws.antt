@@ -103,6 +103,10 @@ module _ {f : Files} {us : List Term} {T : Truth} {m : ℕ} {room after : List �
 pub good-fewer : {f : Files} {us : List Term} {T : Truth} {m n : ℕ} {room : List ℕ} → n ≤ m → Good f us T m room → Good f us T n room
 good-fewer b g at s S h l = g at s S h (omega arith)
 
+-- and of another truth that agrees so far
+pub good-truth : {f : Files} {us : List Term} {T T′ : Truth} {m : ℕ} {room : List ℕ} → ((s p h : ℕ) (a : Atom) → s ≤ m → T′ s p h a ≡ T s p h a) → Good f us T m room → Good f us T′ m room
+good-truth e g at s S h l = right-truth (g at s S h l) (λ p q a. e s p q a l)
+
 -- a table all of whose words are 0 is right
 pub good-zero : (f : Files) (us : List Term) (T : Truth) (m : ℕ) (room : List ℕ) → ((i : ℕ) → tableWord ≤ i → getD room i 0 ≡ 0) → Good f us T m room
 good-zero f us T m room z at s S h l =

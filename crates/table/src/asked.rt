@@ -29,7 +29,8 @@ pub(crate) fn is_this<'a>(
     if word(room, at, 4) as usize != w.parameters {
         return false;
     }
-    same_atoms(rules, goal, terms, room, spot(room, at), w.goal)
+    let x = spot(room, at);
+    same_atoms(rules, goal, terms, room, x, w.goal)
 }
 
 // A failure is believed up to the height at which it was found, a success from there on.

@@ -53,9 +53,10 @@ same-length c = search needs
 returns-3 : tie.Need-returns-3
 returns-3 c = let x = c .before .before .before .before .before .before .before .before .before .before .before .before .before .before .before .args in let room = x .room .now in let f = filesOf (x .rules .now) (x .goal .now) (x .terms .now) in
     let b = inside-bounds (c .before .before .before .before .before .before .before .before .before .before .inside .result) (length (x .room .now)) (x .at) (c .before .before .before .before .before .before .before .before .before .before .inside .ensures) (not-false _ (c .before .before .before .before .before .before .before .before .before .if1 .left)) in
-    let e = c .before .before .note .ensures in
-    (subst (λ (r : List ℕ). TableOnly room r) (sym e) (noted-only room (x .at) (x .height) (x .found) (b .0)),
-    subst (λ (r : List ℕ). Keeps f room r (x .w) (x .height) (x .at) (x .found)) (sym e) (keeps-this f room (x .w) (x .height) (x .at) (x .found) (c .before .before .before .before .before .is-this .ensures (c .before .before .before .before .if3 .taken)) (c .before .before .before .before .before .before .before .before .fits2 .ensures (not-false _ (c .before .before .before .before .before .before .before .if2 .left)))))
+    let e = c .before .before .note .ensures in (
+      subst (λ (r : List ℕ). TableOnly room r) (sym e) (noted-only room (x .at) (x .height) (x .found) (b .0)),
+      subst (λ (r : List ℕ). Keeps f room r (x .w) (x .height) (x .at) (x .found)) (sym e) (keeps-this f room (x .w) (x .height) (x .at) (x .found) (c .before .before .before .before .before .is-this .ensures (c .before .before .before .before .if3 .taken)) (c .before .before .before .before .before .before .before .before .fits2 .ensures (not-false _ (c .before .before .before .before .before .before .before .if2 .left)))),
+    )
 
 -- src/kept.rt:92:5
 enter-requires : tie.Need-enter-requires
@@ -74,9 +75,10 @@ returns-4 : tie.Need-returns-4
 returns-4 c = let x = c .before .before .before .before .before .before .before .before .before .before .before .before .before .before .before .before .before .before .before .args in let room = x .room .now in let f = filesOf (x .rules .now) (x .goal .now) (x .terms .now) in
     let b = inside-bounds (c .before .before .before .before .before .before .before .before .before .before .before .before .before .before .inside .result) (length (x .room .now)) (x .at) (c .before .before .before .before .before .before .before .before .before .before .before .before .before .before .inside .ensures) (not-false _ (c .before .before .before .before .before .before .before .before .before .before .before .before .before .if1 .left)) in
     let fit = c .before .before .before .before .before .before .before .before .before .before .before .before .fits2 .ensures (not-false _ (c .before .before .before .before .before .before .before .before .before .before .before .if2 .left)) in
-    let e = c .before .before .note2 .ensures ∙ ap (λ (r : List ℕ). noted r (x .at) (x .height) (x .found)) (c .before .before .before .before .before .before .enter .ensures (b .1)) in
-    (subst (λ (r : List ℕ). TableOnly room r) (sym e) (entered-only room (x .w) (x .height) (x .at) fit (b .0) (b .1) (x .found)),
-    subst (λ (r : List ℕ). Keeps f room r (x .w) (x .height) (x .at) (x .found)) (sym e) (keeps-new room (x .w) (x .height) (x .at) fit (b .0) (b .1) f (x .found)))
+    let e = c .before .before .note2 .ensures ∙ ap (λ (r : List ℕ). noted r (x .at) (x .height) (x .found)) (c .before .before .before .before .before .before .enter .ensures (b .1)) in (
+      subst (λ (r : List ℕ). TableOnly room r) (sym e) (entered-only room (x .w) (x .height) (x .at) fit (b .0) (b .1) (x .found)),
+      subst (λ (r : List ℕ). Keeps f room r (x .w) (x .height) (x .at) (x .found)) (sym e) (keeps-new room (x .w) (x .height) (x .at) fit (b .0) (b .1) f (x .found)),
+    )
 
 pub keep-spec : {M : Type 1} → statement M
 keep-spec =
