@@ -6,17 +6,7 @@ room=$(mktemp -d)
 trap 'rm -rf "$room"' EXIT
 wrong=0 asked=0
 
-# The status, what is printed, and the last line on standard error must be these.
-says() { # STATUS PRINTED SAID WORD..
-  due=$1 printed=$2 said=$3
-  shift 3
-  asked=$((asked + 1)) status=0
-  got=$(./desk "$@" 2> "$room/said") || status=$?
-  heard=$(tail -n 1 "$room/said")
-  [ "$status" -eq "$due" ] && [ "$got" = "$printed" ] && [ "$heard" = "$said" ] && return
-  printf 'desk %s: expected status %s, "%s" and "%s"; there was %s, "%s" and "%s"\n' "$*" "$due" "$printed" "$said" "$status" "$got" "$heard"
-  wrong=$((wrong + 1))
-}
+. tests/shared
 
 refuses() { # SAID WORD..
   said=$1

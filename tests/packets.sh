@@ -7,10 +7,7 @@ room=$(mktemp -d)
 trap 'rm -rf "$room"' EXIT
 wrong=0 asked=0 by_second=0 by_desk=0
 
-fail() {
-  echo "$*"
-  wrong=$((wrong + 1))
-}
+. tests/shared
 
 # The four packets of the pumping works share a book.
 for folder in packets/works/*/; do
@@ -19,13 +16,7 @@ for folder in packets/works/*/; do
   done
 done
 
-second=
-if command -v cargo > /dev/null; then
-  (cd second && cargo build --release --quiet)
-  second=second/target/release/second
-else
-  echo 'no cargo here: the expected lines are not held against the second program'
-fi
+build_second 'the expected lines'
 
 # The second program prints the strip that it finds after the line.
 ask_second() { # FOLDER LINE WORD..

@@ -7,18 +7,9 @@ room=$(mktemp -d)
 trap 'rm -rf "$room"' EXIT
 wrong=0 asked=0
 
-fail() {
-  echo "$*"
-  wrong=$((wrong + 1))
-}
+. tests/shared
 
-second=
-if command -v cargo > /dev/null; then
-  (cd second && cargo build --release --quiet)
-  second=second/target/release/second
-else
-  echo 'no cargo here: the lines are not held against the second program'
-fi
+build_second 'the lines'
 desk=
 if [ -f crates/book/src/main.rt ]; then
   desk=./desk
@@ -43,17 +34,6 @@ left() { # WHAT RULES GOAL
   cmp "$3" "$room/made/goal.sx" || fail "$1: another goal.sx"
   [ "$(cat "$room/made/terms.sx")" = terms ] || fail "$1: another terms.sx"
   [ "$(find "$room/made" -type f | wc -l)" -eq 3 ] || fail "$1: another file"
-}
-
-# The status, what is printed, and the last line on standard error must be these.
-says() { # STATUS PRINTED SAID WORD..
-  due=$1 printed=$2 said=$3
-  shift 3
-  asked=$((asked + 1)) status=0
-  got=$(./desk "$@" 2> "$room/said") || status=$?
-  heard=$(tail -n 1 "$room/said")
-  [ "$status" -eq "$due" ] && [ "$got" = "$printed" ] && [ "$heard" = "$said" ] && return
-  fail "desk $*: expected status $due, '$printed' and '$said'; there was $status, '$got' and '$heard'"
 }
 
 # The book becomes these two files.
