@@ -18,13 +18,13 @@ use Rattle.sexp.proofs.StandLaws.{members-stand, first-stands, others-stand}
 use Rattle.sexp.proofs.FoundLaws.{ends-here}
 use Rattle.packet.specs.declared.Word.{Word}
 use Rattle.packet.specs.Table.{wordOf, dueAfter, rows, rank}
-use Rattle.packet.specs.WordAt.{WordAt}
-use Rattle.packet.proofs.WordLaws.{word-is}
+use Rattle.reader.specs.WordAt.{WordAt}
+use Rattle.reader.proofs.WordLaws.{word-is}
 use Rattle.packet.specs.Written.{word, goalSexp, clauseSexp}
 use Rattle.packet.specs.declared.Kind.the-variants as K
-use Rattle.packet.specs.declared.table.Row.{Row}
-use Rattle.packet.specs.declared.table.Row.the-variants as R
-use Rattle.packet.specs.Rows.{rowOf}
+use Rattle.rows.specs.declared.table.Row.{Row}
+use Rattle.rows.specs.declared.table.Row.the-variants as R
+use Rattle.rows.specs.Rows.{rowOf}
 use Rattle.heads.specs.Heads.{goalWord, clauseWord, GoalShape, ClauseShape}
 
 -- an expression at an offset of a file, and of the part of the file from a spot on

@@ -22,16 +22,16 @@ use Rattle.sexp.proofs.AnswerLaws.{past-next, past-nothing}
 use Rattle.sexp.proofs.StandLaws.{stands-once, first-stands, others-stand, none-closes, no-closing}
 use Rattle.packet.specs.declared.Word.{Word}
 use Rattle.packet.specs.declared.Word.the-variants as W
-use Rattle.packet.specs.WordAt.{WordAt}
+use Rattle.reader.specs.WordAt.{WordAt}
 use Rattle.packet.specs.declared.Kind.the-variants as K
-use Rattle.packet.specs.declared.table.Row.the-variants as R
-use Rattle.packet.specs.Rows.{rowOf}
+use Rattle.rows.specs.declared.table.Row.the-variants as R
+use Rattle.rows.specs.Rows.{rowOf}
 use Rattle.packet.specs.Table.{dueAfter}
 use Rattle.packet.specs.Written.{termSexps, atomSexp, clauseSexp}
 use Rattle.room.specs.Where.{Files, plus, further}
 use Rattle.room.specs.declared.Spot.{Spot}
 use Rattle.room.proofs.NestLaws.{clause-nests}
-use Rattle.room.proofs.TermLaws.{atom-text, atom-rest, text-once, names-differ}
+use Rattle.equal.proofs.TermLaws.{atom-text, atom-rest, text-once, names-differ}
 use Rattle.room.proofs.WhereLaws.{plus-inside}
 use Rattle.heads.specs.Predicate.{arguments, samePredicate, hasHead, many, SameNumber, SamePredicate, bytesAt, AtomThere, ClauseThere, SameThere, HasHead, HasHeadAs}
 use Rattle.heads.proofs.HeadLaws.{part-stands, clause-says, clause-is, clause-has-row, heads, first-part, second-found, first-found}

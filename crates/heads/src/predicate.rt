@@ -1,10 +1,10 @@
 // Whether two atoms have the same predicate, by their bytes, and whether a clause has a head with an atom's predicate; any head under an `and` counts (document 02, Three).
 use packet::Word;
+use places::further;
+use places::past_part;
+use places::word_there;
 use room::Spot;
-use room::further;
 use room::part;
-use room::past_part;
-use room::word_there;
 use sexp::After;
 use sexp::closes;
 use sexp::past;

@@ -8,12 +8,12 @@ use Rattle.packet.specs.declared.Kind.the-variants as K
 use Rattle.packet.specs.declared.Reason.{Reason}
 use Rattle.packet.specs.declared.File.{File}
 use Rattle.packet.specs.declared.File.the-variants as F
-use Rattle.packet.specs.declared.files.Judged.the-variants as J
-use Rattle.packet.specs.declared.files.Read.{Read}
-use Rattle.packet.specs.declared.files.Read.the-variants as P
+use Rattle.reader.specs.declared.files.Judged.the-variants as J
+use Rattle.reader.specs.declared.files.Read.{Read}
+use Rattle.reader.specs.declared.files.Read.the-variants as P
 use Rattle.packet.specs.File.{Outcome, Packet, booksOf, packetOf}
-use Rattle.packet.specs.Judged.{judgedOf, termsRead, goalRead, stripRead, booksRead, packetRead}
-use Rattle.packet.proofs.JudgedLaws.{file-refused, file-read, books-are, packet-refused, packet-read}
+use Rattle.reader.specs.Judged.{judgedOf, termsRead, goalRead, stripRead, booksRead, packetRead}
+use Rattle.reader.proofs.JudgedLaws.{file-refused, file-read, books-are, packet-refused, packet-read}
 use Rattle.packet.proofs.PacketLaws.{packet-exactly}
 use Rattle.room.specs.Layout.{words}
 use Rattle.room.specs.Start.{Tabled}

@@ -5,10 +5,10 @@ use mathlib.Core.Path.{_≡_}
 use mathlib.Core.List.{List}
 use lib.ListN.{length}
 use Rattle.packet.specs.declared.Kind.the-variants as K
-use Rattle.packet.specs.declared.files.Read.{Read}
+use Rattle.reader.specs.declared.files.Read.{Read}
 use Rattle.packet.specs.Sound.{SoundPacket}
 use Rattle.packet.specs.File.{Packet, packetOf}
-use Rattle.packet.specs.Judged.{judgedOf, packetRead}
+use Rattle.reader.specs.Judged.{judgedOf, packetRead}
 use Rattle.room.specs.Layout.{words, stack}
 use Rattle.room.specs.Where.{Kept}
 use Rattle.room.specs.Start.{Tabled}

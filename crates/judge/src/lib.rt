@@ -4,7 +4,7 @@ mod request;
 use packet::File;
 use packet::Reason;
 use request::judge_files;
-use room::clear;
+use start::clear;
 ghost use Rattle.judge.specs.Verdict.{Judgement};
 
 // What comes back. The place of a refusal is 0 but for number 7.

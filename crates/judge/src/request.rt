@@ -2,13 +2,13 @@
 // of files 1, 2, 3, 4 in turn, whichever half reads them (document 01, "What comes back").
 use crate::Verdict;
 use packet::File;
-use packet::Judged;
 use packet::Kind;
-use packet::Read;
 use packet::Reason;
-use packet::judge_file;
-use room::fill_tables;
-use room::first_place;
+use reader::Judged;
+use reader::Read;
+use reader::judge_file;
+use start::fill_tables;
+use start::first_place;
 use uses::Outcome;
 use walk::node;
 ghost use mathlib.Core.Path.{_≡_};

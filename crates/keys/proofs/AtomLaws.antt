@@ -21,7 +21,7 @@ use Rattle.room.specs.Layout.{levels}
 use Rattle.room.specs.Spot.{fileOf, bindingsAt}
 use Rattle.room.specs.Where.{Files}
 use Rattle.room.specs.declared.Spot.{Spot}
-use Rattle.room.proofs.TermLaws.{part-stands, atom-text, atom-rest}
+use Rattle.equal.proofs.TermLaws.{part-stands, atom-text, atom-rest}
 use Rattle.keys.specs.Key.{mix, textKey, termsKey, argumentsKey}
 use Rattle.keys.specs.Walk.{TextAt, TermAtKey, TermsAtKey, RowAt, PredicateAt, AtomAtKey}
 use Rattle.keys.specs.Keys.{TermKeyAt, AtomKeyAt, PredicateKeyAt}

@@ -19,17 +19,17 @@ use Rattle.room.specs.Layout.{words, levels, ruleWord, candidateWord}
 use Rattle.room.specs.Spot.{bindingsAt, nowhere}
 use Rattle.room.specs.Where.{filesOf, Booked}
 use Rattle.room.specs.declared.Spot.{Spot}
-use Rattle.room.proofs.TermLaws.{closed-stays}
+use Rattle.equal.proofs.TermLaws.{closed-stays}
 use Rattle.keys.specs.Key.{termKey, clauseKey}
 use Rattle.keys.specs.Walk.{keptWord, TermAtKey, ClauseAt}
 use Rattle.keys.specs.Keys.{keyWord, keysEnd, Within, CandidatesDone, RulesDone, CandidatesKept, RulesKept, KeysFilled}
 use Rattle.keys.proofs.WalkLaws.{keyed-none}
 
 -- one word more, between two
-within-none : (before : List ℕ) (from to : ℕ) → Within before before from to
+pub within-none : (before : List ℕ) (from to : ℕ) → Within before before from to
 within-none before from to = record { long = refl; below = λ j l. refl; above = λ j l. refl }
 
-within-more : (before now : List ℕ) (from to i w : ℕ) → Within before now from to → from ≤ i → i < to → Within before (set now i w) from to
+pub within-more : (before now : List ℕ) (from to i w : ℕ) → Within before now from to → from ≤ i → i < to → Within before (set now i w) from to
 within-more before now from to i w H l m = record {
   long = length-set now i w ∙ H .long;
   below = λ j k. getD-set-other now i j w 0 (omega arith) ∙ H .below j k;

@@ -101,7 +101,7 @@ module _ (us : List Term) (bs : Bindings) where
   replaced-predicate-key (Atom.atom n ts) = ap (λ (k : ℕ). k * 2 + 2) (row-stays (textKey n) ts)
 
 -- what mentions no variable
-neither : (a b : Bool) → a || b ≡ false → (a ≡ false) × (b ≡ false)
+pub neither : (a b : Bool) → a || b ≡ false → (a ≡ false) × (b ≡ false)
 neither true b e = absurd (false≢true (sym e))
 neither false b e = (refl, e)
 

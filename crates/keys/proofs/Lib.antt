@@ -3,3 +3,4 @@ pub mod WalkLaws
 pub mod AtomLaws
 pub mod RuleLaws
 pub mod FillLaws
+pub mod NextLaws

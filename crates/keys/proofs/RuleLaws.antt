@@ -17,10 +17,10 @@ use Rattle.packet.specs.Barred.{atomOk, goalOk, clauseOk}
 use Rattle.packet.specs.declared.Word.{Word}
 use Rattle.packet.specs.declared.Word.the-variants as W
 use Rattle.packet.specs.declared.Kind.the-variants as K
-use Rattle.packet.specs.declared.table.Row.the-variants as R
-use Rattle.packet.specs.Rows.{rowOf}
+use Rattle.rows.specs.declared.table.Row.the-variants as R
+use Rattle.rows.specs.Rows.{rowOf}
 use Rattle.packet.specs.Table.{dueAfter}
-use Rattle.packet.specs.WordAt.{WordAt}
+use Rattle.reader.specs.WordAt.{WordAt}
 use Rattle.sexp.specs.declared.skip.After.{After}
 use Rattle.sexp.specs.declared.skip.After.the-variants as A
 use Rattle.sexp.specs.Sexp.{Sexp, str, Stands, StandsAll, nesting, nestings}
@@ -33,7 +33,7 @@ use Rattle.room.specs.Spot.{fileOf, bindingsAt, nowhere}
 use Rattle.room.specs.Where.{Files}
 use Rattle.room.specs.declared.Spot.{Spot}
 use Rattle.room.proofs.NestLaws.{term-nests, clause-nests}
-use Rattle.room.proofs.TermLaws.{part-stands, termText, termRest, term-word, term-text, term-rest, text-once, atom-text, rest-shallow}
+use Rattle.equal.proofs.TermLaws.{part-stands, termText, termRest, term-word, term-text, term-rest, text-once, atom-text, rest-shallow}
 use Rattle.heads.specs.Heads.{clauseWord}
 use Rattle.heads.proofs.HeadLaws.{clause-says, clause-is, clause-has-row, heads, first-part, second-found, first-found}
 use Rattle.mentions.specs.Mentions.{mentionsTerm, mentionsTerms}

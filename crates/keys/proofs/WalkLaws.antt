@@ -36,10 +36,10 @@ use Rattle.room.specs.Spot.{bindingsAt, nowhere}
 use Rattle.room.specs.Table.{CandidatesIn}
 use Rattle.room.specs.declared.Spot.{Spot}
 use Rattle.room.proofs.FrameLaws.{bound-means}
-use Rattle.room.proofs.HighLaws.{number-some}
+use Rattle.start.proofs.HighLaws.{number-some}
 use Rattle.room.proofs.NestLaws.{term-nests}
-use Rattle.room.proofs.SeeLaws.{number-read, unread, no-f-e, parameter-small}
-use Rattle.room.proofs.TermLaws.{part-stands, term-word, term-text, term-rest, text-once}
+use Rattle.equal.proofs.SeeLaws.{number-read, unread, no-f-e, parameter-small}
+use Rattle.equal.proofs.TermLaws.{part-stands, term-word, term-text, term-rest, text-once}
 use Rattle.keys.specs.declared.term.Begun.{Begun}
 use Rattle.keys.specs.declared.term.Begun.the-variants.{Key, Terms as Rest}
 use Rattle.keys.specs.Key.{mix, more, textFrom, textKey, termKey, termsKey}
@@ -77,7 +77,7 @@ pub parameter-told : (t : List ℕ) {v : Value} {k m r : ℕ} → v ≡ Val.Is k
 parameter-told t {m = m} e a f g i h l = let z = number-some e a i h l in g ∙ ap (mix 5) {x = m} {y = i} (omega (arith, f, z, l))
 
 -- what the room says of bindings, where its tables are right
-candidate-meant : (cs : List Term) (i : ℕ) (t : Term) → getElem? cs i ≡ some t → t ≡ meant cs (Candidate i)
+pub candidate-meant : (cs : List Term) (i : ℕ) (t : Term) → getElem? cs i ≡ some t → t ≡ meant cs (Candidate i)
 candidate-meant cs i t e = rw (e, meant) refl
 
 candidate-unlisted : (cs : List Term) (i : ℕ) → getElem? cs i ≡ none → nothing ≡ meant cs (Candidate i)

@@ -1,7 +1,7 @@
 -- The numbers at spots of the files, and the tables of them in the room (document 02, Three): those of rules in 256 words, those of candidates in the 256 words after them.
 use Prim.Native.Nat.{ℕ, _+_, _≤_, _<_, min}
 use mathlib.Core.Path.{_≡_}
-use mathlib.Core.Bool.{true}
+use mathlib.Core.Bool.{Bool, true, false}
 use mathlib.Core.List.{List}
 use mathlib.Core.Option.{some}
 use lib.ListN.{length, getD, getElem?}
@@ -14,7 +14,7 @@ use Rattle.packet.specs.Barred.{termOk, clauseOk}
 use Rattle.room.specs.Layout.{words, levels, rulesWord, ruleWord, candidatesWord, candidateWord}
 use Rattle.room.specs.Spot.{bindingsAt}
 use Rattle.room.specs.Table.{CandidatesIn}
-use Rattle.room.specs.Term.{TermAt, AtomAt}
+use Rattle.equal.specs.Term.{TermAt, AtomAt}
 use Rattle.room.specs.Where.{Files, filesOf, Booked}
 use Rattle.room.specs.declared.Spot.{Spot}
 use Rattle.heads.specs.Predicate.{AtomThere, ClauseThere}
@@ -81,3 +81,23 @@ RulesKept before after rules = RulesDone before after rules (min (getD before ru
 pub record KeysFilled (before after rules terms : List ℕ) : Type 0 where
   pub within : Within before after (keyWord 0) keysEnd
   pub right : words ≤ length before → (goal : List ℕ) (ds : List (Clause Plain)) (cs : List Term) → Booked (filesOf rules goal terms) before ds cs → KeysIn after ds cs
+
+-- a rule with number x cannot serve an atom with these numbers, of its predicate and of its own: its number is none of them, and not 0
+pub record Differs (predicate key x : ℕ) : Type 0 where
+  pub some : x ≡ 0 → ⊥
+  pub other : x ≡ predicate → ⊥
+  pub own : x ≡ key → ⊥
+
+abbrev pub MayServe : ℕ → ℕ → ℕ → Bool → Type 0
+MayServe predicate key x r = r ≡ false → Differs predicate key x
+
+-- so rule k, by the room
+abbrev pub Barred : List ℕ → ℕ → ℕ → ℕ → Type 0
+Barred room predicate key k = Differs predicate key (getD room (keyWord k) 0)
+
+-- the first clause from one on, of n, that may serve it: those before are rules that cannot
+pub record NextClause (room : List ℕ) (predicate key from n r : ℕ) : Type 0 where
+  pub few : r ≤ n
+  pub further : from ≤ n → from ≤ r
+  pub rules : (j : ℕ) → from ≤ j → j < r → j < getD room rulesWord 0
+  pub barred : (j : ℕ) → from ≤ j → j < r → Barred room predicate key j

@@ -3,7 +3,7 @@ use crate::atom::atom_of;
 use crate::atom::predicate_of;
 use crate::term::from;
 use packet::Word;
-use packet::word_at;
+use reader::word_at;
 use room::Source;
 use room::Spot;
 use room::part;

@@ -1,14 +1,7 @@
-pub mod TableLaws
-pub mod KeyLaws
-pub mod WordLaws
 pub mod ReadLaws
 pub mod BuiltLaws
 pub mod SpellsLaws
 pub mod ExactLaws
-pub mod ShapeLaws
-pub mod TextLaws
-pub mod TabledLaws
-pub mod BarsLaws
 pub mod BarredLaws
 pub mod FoundLaws
 pub mod MemberLaws
@@ -16,7 +9,5 @@ pub mod FileLaws
 pub mod GoodLaws
 pub mod PacketLaws
 pub mod OffsetLaws
-pub mod CountLaws
-pub mod JudgedLaws
 pub mod Examples
 pub mod FairLaws

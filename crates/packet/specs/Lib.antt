@@ -4,14 +4,8 @@ pub mod Wrong
 pub mod Barred
 pub mod Offset
 pub mod Read
-pub mod Rows
 pub mod Numbers
 pub mod File
-pub mod Key
-pub mod WordAt
 pub mod Spells
-pub mod Shape
-pub mod Bars
 pub mod Refusal
 pub mod Sound
-pub mod Judged

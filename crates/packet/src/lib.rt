@@ -1,22 +1,5 @@
-// The table of words and the four files read (document 01, "The carrier and the words", "Sizes", "What comes back").
-mod bars;
-mod count;
-mod files;
-mod shape;
-mod table;
-mod words;
-
-pub use files::Judged;
-pub use files::Read;
-pub use files::judge_file;
-pub use files::read_books;
-pub use files::read_packet;
-pub use table::Follows;
-pub use table::Row;
-pub use table::due_after;
-pub use table::may_end;
-pub use table::next_due;
-pub use words::word_at;
+// The words, the kinds and what may be due, the refusals and the files, as names, with the paper's numbers (document 01, "The carrier and the words", "What comes back").
+// What they mean is in specs/.
 ghost use mathlib.Core.Path.{_≡_};
 ghost use Rattle.packet.specs.Numbers.{reasonNumber, fileNumber};
 

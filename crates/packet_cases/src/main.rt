@@ -1,11 +1,11 @@
 // Reads every packet of two files of packet cases (second/README.md: how many files are read, and four files, each a string) and prints one line for each. The
 // cases and the lines that are expected come from the second program alone.
-use packet::Read;
 use programs::load;
 use programs::say;
 use programs::say_number;
 use programs::say_refused;
 use programs::string;
+use reader::Read;
 ghost use Prim.Native.Nat.{_<_, _≤_};
 ghost use lib.ListN.{length};
 
@@ -24,10 +24,10 @@ fn show(p: Read) {
 // Reads the four files of a case, or three, and shows the answer.
 fn packet(three: bool, rules: &[u8], goal: &[u8], terms: &[u8], strip: &[u8]) {
     if three {
-        show(packet::read_books(rules, goal, terms));
+        show(reader::read_books(rules, goal, terms));
         return;
     }
-    show(packet::read_packet(rules, goal, terms, strip));
+    show(reader::read_packet(rules, goal, terms, strip));
 }
 
 // Reads the case at an offset, and answers where the next one starts.

@@ -1,35 +1,36 @@
--- What a search answers, put together: of a packet that is read from the three parts, then of any height and files, then of any room; each with the buffer and the room afterwards.
+-- What a search answers, put together: of a packet that is read from its parts, then of any height and files, then of any room; each with the buffer and the room afterwards.
 use Prim.Native.Nat.{ℕ, min, _≤_, _<_}
 use native.Mathlib.Omega.{arith}
 use mathlib.Core.Path.{_≡_, refl, sym, _∙_, ap, ap₂, subst}
 use mathlib.Core.Bool.{Bool, true, false, false≢true}
 use mathlib.Core.List.{List}
 use mathlib.Core.Option.{Option, none, some}
-use lib.ListN.{length, replicate}
+use lib.ListN.{length, take, replicate}
+use lib.Seq.{length-take-le}
 use Rattle.harrop.specs.Formula.{Strip, height, nodes}
 use Rattle.packet.specs.declared.Reason.{Reason}
 use Rattle.packet.specs.declared.Reason.the-variants as R
 use Rattle.packet.specs.declared.File.{File}
 use Rattle.packet.specs.declared.File.the-variants as F
-use Rattle.packet.specs.declared.files.Read.{Read}
-use Rattle.packet.specs.declared.files.Read.the-variants as K
+use Rattle.reader.specs.declared.files.Read.{Read}
+use Rattle.reader.specs.declared.files.Read.the-variants as K
 use Rattle.packet.specs.File.{mostBytes, Outcome, Books, booksOf}
-use Rattle.packet.specs.Judged.{booksRead}
+use Rattle.reader.specs.Judged.{booksRead}
 use Rattle.packet.specs.Sound.{SoundBooks, BooksMean}
 use Rattle.packet.proofs.PacketLaws.{books-told}
 use Rattle.room.specs.Layout.{words}
-use Rattle.room.specs.Start.{Tabled}
 use Rattle.room.proofs.StartLaws.{cleared, untouched}
 use Rattle.provable.specs.Provable.{isSome}
 use Rattle.writer.specs.Spelled.{written}
-use Rattle.pen.specs.Laid.{counted}
+use Rattle.pen.specs.Laid.{counted, Puts}
+use Rattle.pen.proofs.LaidLaws.{puts-as, laid-over}
 use Rattle.writer.specs.declared.Drawn.{Drawn}
 use Rattle.propose.specs.declared.Proposal.{Proposal}
 use Rattle.propose.specs.declared.Proposal.the-variants as P
-use Rattle.propose.specs.Proposed.{mostHeight, Comes, firstStrip, ofFirst, ofBooks, comesTo, proposal, proposalOf, over, left, bufferAfter, paper, Proposes}
-use Rattle.propose.specs.Parts.{SetOut, Telling, Measuring, Filling, Says, Searching, Answering}
-use Rattle.propose.proofs.PartsLaws.{set-out}
+use Rattle.propose.specs.Proposed.{mostHeight, Comes, firstStrip, unlessLong, ofFirst, ofBooks, comesTo, proposal, proposalOf, over, left, bufferAfter, paper, Proposes}
+use Rattle.propose.specs.Parts.{Setting, Telling, Measuring, Filling, Says, Searching, Answering}
 use Rattle.propose.proofs.MeaningLaws.{unless-fits, unless-long, on-room, on-height, on-refused, once-low}
+use Rattle.propose.proofs.WrittenLaws.{front-filled}
 
 -- a refusal leaves the buffer as it came
 pub refusing : (x : Comes) (r : Reason) (f : File) (d : List ℕ) (q : Proposal) → x ≡ Comes.refuses r f → q ≡ proposal (Comes.refuses r f) → Says x d d q
@@ -61,32 +62,45 @@ finding x S d d′ m e u v w z =
       strip = z ∙ ap (λ (y : Comes). left y d) (sym e);
     }
 
--- the search of a packet that is read: `room₁` has the tables filled, `room₂` is left by the yes or no, `room₃` by the measuring
-module _ (h : ℕ) (rs gs ts room room₁ room₂ d : List ℕ) (r : Bool) (t : words ≤ length room → Tabled room₁ rs ts) (l : length room₁ ≡ length room) (p : Telling h rs gs ts room₁ room₂ r) where
+-- the strip's bytes copied from the front of the scratch buffer
+copied : (w z z′ d d′ : List ℕ) (n next : ℕ) → z′ ≡ over w z → n ≡ length w → Puts 0 (take n z′) d d′ next → length w ≤ length d → length w ≤ mostBytes → d′ ≡ over w d
+unfolding over
+copied w z z′ d d′ n next e k p l m =
+    let front : take n z′ ≡ w = ap (λ (y : List ℕ). take n y) e ∙ ap (λ (i : ℕ). take i (over w z)) k ∙ front-filled w z in
+    puts-as front p .bytes ∙ laid-over w d l m
+
+-- what is copied lies inside a scratch buffer that has as many bytes as a strip may have
+pub front-inside : (z : List ℕ) (size most n : ℕ) → length z ≡ mostBytes → most ≡ min size mostBytes → n ≤ most → n ≡ length (take n z)
+front-inside z size most n e w l = sym (length-take-le n z (omega arith))
+
+-- the first strip drawn into `z`, which has as many bytes as a strip may have: copied only if it is not too long
+module _ (h : ℕ) (rs gs ts room after z z′ d : List ℕ) (m : Drawn) (v : Measuring h rs gs ts room after z z′ m) (most : ℕ) (w : most ≡ min (length d) mostBytes) where
+  pub too-long : (q : Proposal) → most < m .at → q ≡ proposal (Comes.refuses R.Buffer F.None) → Filling h rs gs ts room d d q
+  too-long q n a b S s e =
+      let y = v b S s e in
+      refusing (unlessLong (length d) S) R.Buffer F.None d q (unless-long (length d) S (counted-long (length d) (length (written S)) (m .at) (y .long) (omega arith))) a
+
+  pub strip-copied : (d′ : List ℕ) (next : ℕ) → m .at ≤ most → length z ≡ mostBytes → Puts 0 (take (m .at) z′) d d′ next → Filling h rs gs ts room d d′ (P.Found (m .height) (m .nodes) (m .at))
+  strip-copied d′ next n l p b S s e =
+      let y = v b S s e in
+      let (x, c) = counted-short (length d) (length (written S)) (m .at) (y .long) (omega arith) in
+      finding (unlessLong (length d) S) S d d′ m (unless-fits (length d) S x) (y .high) (y .many) c
+      (copied (written S) z z′ d d′ (m .at) next (y .bytes (omega arith) (omega arith)) c p (omega arith) (omega arith))
+
+-- the search of a packet that is read: in `room₁` it is set out, `room₂` is left by the yes or no
+module _ (h : ℕ) (rs gs ts room room₁ room₂ d : List ℕ) (r : Bool) (t : Setting rs ts room room₁) (p : Telling h rs gs ts room₁ room₂ r) where
   pub none-found : (q : Proposal) → r ≡ false → q ≡ proposal (Comes.refuses R.NoProof F.None) → Searching h rs gs ts room d d q
   unfolding ofFirst
   none-found q n a b s low long =
-      let y = p b (set-out room room₁ b s low long l t) in
+      let y = p b (t h gs b s low long) in
       refusing (ofFirst (length d) (firstStrip h b)) R.NoProof F.None d q (ap (ofFirst (length d)) (no-none (firstStrip h b) r (y .answer) n)) a
 
-  module _ (room₃ : List ℕ) (m : Drawn) (v : Measuring h rs gs ts room₂ room₃ m) (yes : r ≡ true) where
-    pub too-long : (q : Proposal) (most : ℕ) → most ≡ min (length d) mostBytes → most < m .at → q ≡ proposal (Comes.refuses R.Buffer F.None) → Searching h rs gs ts room d d q
-    unfolding ofFirst
-    too-long q most w n a b s low long =
-        let y = p b (set-out room room₁ b s low long l t) in
-        let (S, e) = yes-some (firstStrip h b) r (y .answer) yes in
-        let z = v b S (y .stays) e in
-        refusing (ofFirst (length d) (firstStrip h b)) R.Buffer F.None d q
-        (ap (ofFirst (length d)) e ∙ unless-long (length d) S (counted-long (length d) (length (written S)) (m .at) (z .long) (omega arith))) a
-
-    pub strip-found : (d′ : List ℕ) (most : ℕ) → most ≡ min (length d) mostBytes → m .at ≤ most → Filling h rs gs ts room₃ d d′ → Searching h rs gs ts room d d′ (P.Found (m .height) (m .nodes) (m .at))
-    unfolding ofFirst
-    strip-found d′ most w n f b s low long =
-        let y = p b (set-out room room₁ b s low long l t) in
-        let (S, e) = yes-some (firstStrip h b) r (y .answer) yes in
-        let z = v b S (y .stays) e in
-        let (x, c) = counted-short (length d) (length (written S)) (m .at) (z .long) (omega arith) in
-        finding (ofFirst (length d) (firstStrip h b)) S d d′ m (ap (ofFirst (length d)) e ∙ unless-fits (length d) S x) (z .high) (z .many) c (f b S (z .stays) e (omega arith) (omega arith))
+  pub some-found : (d′ : List ℕ) (q : Proposal) → r ≡ true → Filling h rs gs ts room₂ d d′ q → Searching h rs gs ts room d d′ q
+  unfolding ofFirst
+  some-found d′ q n f b s low long =
+      let y = p b (t h gs b s low long) in
+      let (S, e) = yes-some (firstStrip h b) r (y .answer) n in
+      subst (λ (o : Option Strip). Says (ofFirst (length d) o) d d′ q) (sym e) (f b S (y .stays) e)
 
 -- any height and files
 module _ (h : ℕ) (rs gs ts room d : List ℕ) where

@@ -1,5 +1,5 @@
--- The three parts of a search at the root place: crate provable's yes or no says whether there is a first strip; drawn from place 0 on, the first strip has its measures and fills the front of a buffer that has room for it.
-use Prim.Native.Nat.{ℕ, _+_, _≤_}
+-- The parts of a search at the root place: the room is set out; crate provable's yes or no says whether there is a first strip; drawn from place 0 on, the first strip has its measures and fills the front of a buffer that has room for it.
+use Prim.Native.Nat.{ℕ, _+_, _≤_, _<_}
 use native.Mathlib.Omega.{arith}
 use mathlib.Core.Path.{_≡_, sym, _∙_, subst}
 use mathlib.Core.Bool.{Bool}
@@ -9,31 +9,59 @@ use Rattle.harrop.specs.Place.{listed, atStart}
 use Rattle.packet.specs.File.{Books}
 use Rattle.packet.specs.Sound.{SoundBooks}
 use Rattle.room.specs.Layout.{words, stack}
-use Rattle.room.specs.Where.{Kept, filesOf}
+use Rattle.room.specs.Where.{Live, Kept, filesOf}
 use Rattle.room.specs.Start.{start, Tabled}
 use Rattle.room.specs.declared.Where.{Where}
 use Rattle.room.proofs.EnoughLaws.{enough-at-start}
-use Rattle.room.proofs.WhereLaws.{means-kept}
+use Rattle.room.proofs.WhereLaws.{kept-then, means-kept}
 use Rattle.room.proofs.StartLaws.{root-means}
+use Rattle.keys.specs.Keys.{KeysFilled}
+use Rattle.narrow.specs.Heads.{HeadsFilled}
+use Rattle.table.specs.Recall.{TableOnly, Empty}
+use Rattle.table.proofs.GoodLaws.{good-empty}
+use Rattle.provable.specs.Stock.{truth, Stock, Keeps}
 use Rattle.provable.specs.Proving.{Ready, Proving}
+use Rattle.provable.proofs.StockLaws.{kept-below, keys-kept, keys-below, heads-below}
 use Rattle.provable.proofs.ProvableLaws.{provable-is}
 use Rattle.writer.specs.Spelled.{written}
 use Rattle.writer.specs.Writing.{Writing}
 use Rattle.writer.specs.declared.Drawn.{Drawn}
 use Rattle.propose.specs.Proposed.{mostHeight, firstStrip, over}
-use Rattle.propose.specs.Parts.{SetOut, Telling, Measuring, Filling}
+use Rattle.propose.specs.Parts.{SetOut, Setting, Telling, Measuring}
 use Rattle.pen.proofs.LaidLaws.{laid-over}
 
--- a packet that is read is set out once its tables are filled
-pub set-out : {h : ℕ} {rs gs ts : List ℕ} (room after : List ℕ) (b : Books) → SoundBooks rs gs ts b → h ≤ mostHeight → words ≤ length room → length after ≡ length room → (words ≤ length room → Tabled after rs ts) → SetOut h rs gs ts after b
-set-out room after b s low long e t = record { low = low; long = omega arith; place = root-means b s (t long) }
+-- what the root place relies on lies below the numbers
+below-keys : (i : ℕ) → Live 0 stack i → i < stack
+below-keys i (Live.low l) = omega arith
+below-keys i (Live.high l h) = h
+
+-- a packet that is read is set out once its tables are filled, the numbers and the heads are in theirs, and no slot of the table of atoms holds anything
+pub set-out : (rs ts room tables keys heads after : List ℕ) → length tables ≡ length room → (words ≤ length room → Tabled tables rs ts) → KeysFilled tables keys rs ts → HeadsFilled keys heads rs → TableOnly heads after → Empty after → Setting rs ts room after
+set-out rs ts room tables keys heads after e t k d o n h gs b s low long =
+    let place = root-means b s (t long) in
+    let few = place .booked .rules .few in
+    let numbered : Kept 0 stack tables keys = λ i l. k .within .below i (omega (arith, below-keys i l)) in
+    let placed : Kept 0 stack keys heads = λ i l. d .within .below i (omega (arith, below-keys i l)) in
+    let booked = means-kept numbered place .booked in
+    let kept = kept-then {s′ = 0} {t′ = stack} tables keys after (omega arith) (omega arith) numbered (kept-then {s′ = 0} {t′ = stack} keys heads after (omega arith) (omega arith) placed (kept-below (omega arith) (omega arith) o)) in
+    record {
+      low = low;
+      long = omega (arith, o .long, d .within .long, k .within .long);
+      place = means-kept kept place;
+      stock =
+          record {
+            keys = keys-below few (place .booked .candidates .few) o (keys-kept few (place .booked .candidates .few) (λ i l. d .within .below i (omega arith)) (k .right (omega arith) gs (b .rules) (b .candidates) (place .booked)));
+            heads = heads-below rs (b .rules) few o (d .right (omega (arith, k .within .long)) gs ts (b .rules) (b .candidates) booked);
+            good = good-empty (filesOf rs gs ts) (b .candidates) (truth (b .candidates) (length (b .rules)) (atStart (b .rules))) 0 after n;
+          };
+    }
 
 module _ {h : ℕ} {rs gs ts room : List ℕ} {b : Books} (s : SetOut h rs gs ts room b) where
   ready : Ready (filesOf rs gs ts) room (b .rules) (b .candidates) start h [] (atStart (b .rules)) [] (b .goal)
-  ready = record { place = s .place; enough = enough-at-start h (omega (arith, s .low)); long = s .long }
+  ready = record { place = s .place; enough = enough-at-start h (omega (arith, s .low)); long = s .long; low = omega (arith, s .low); stock = s .stock }
 
-  stays-set-out : (after : List ℕ) → length after ≡ length room → Kept 0 stack room after → SetOut h rs gs ts after b
-  stays-set-out after e k = record { low = s .low; long = omega (arith, s .long); place = means-kept k (s .place) }
+  stays-set-out : (after : List ℕ) → length after ≡ length room → Keeps (Stock (filesOf rs gs ts) (b .rules) (b .candidates) 0 (atStart (b .rules))) 0 stack room after → SetOut h rs gs ts after b
+  stays-set-out after e k = record { low = s .low; long = omega (arith, s .long); place = means-kept (k .words) (s .place); stock = k .stock (s .stock) }
 
 module _ (h : ℕ) (rs gs ts room after : List ℕ) (w : Where) (e : w ≡ start) where
   -- whether there is one
@@ -43,20 +71,19 @@ module _ (h : ℕ) (rs gs ts room after : List ℕ) (w : Where) (e : w ≡ start
       let a = subst (λ (x : Where). Proving (filesOf rs gs ts) room after x h r) e p (b .rules) (b .candidates) [] (atStart (b .rules)) [] (b .goal) (ready s) in
       record { stays = stays-set-out s after l (a .kept); answer = a .answer ∙ sym (provable-is (listed (b .candidates)) h [] (atStart (b .rules)) [] (b .goal)) }
 
-  module _ (d d′ : List ℕ) (r : Drawn) (p : Writing (filesOf rs gs ts) room after d d′ w h 0 r) where
-    from-start : Writing (filesOf rs gs ts) room after d d′ start h 0 r
-    from-start = subst (λ (x : Where). Writing (filesOf rs gs ts) room after d d′ x h 0 r) e p
+  module _ (z z′ : List ℕ) (r : Drawn) (p : Writing (filesOf rs gs ts) room after z z′ w h 0 r) where
+    from-start : Writing (filesOf rs gs ts) room after z z′ start h 0 r
+    from-start = subst (λ (x : Where). Writing (filesOf rs gs ts) room after z z′ x h 0 r) e p
 
-    -- its measures
-    pub measured : length after ≡ length room → Measuring h rs gs ts room after r
-    unfolding firstStrip
+    -- its measures, and its bytes
+    pub measured : length after ≡ length room → Measuring h rs gs ts room after z z′ r
+    unfolding firstStrip over
     measured l b S s q =
         let a = from-start (b .rules) (b .candidates) [] (atStart (b .rules)) [] (b .goal) S (ready s) q in
-        record { stays = stays-set-out s after l (a .kept); high = a .done .high; many = a .done .many; long = omega (arith, a .done .puts .ahead) }
-
-    -- and its bytes
-    pub filled : Filling h rs gs ts room d d′
-    unfolding firstStrip over
-    filled b S s q l m =
-        let a = from-start (b .rules) (b .candidates) [] (atStart (b .rules)) [] (b .goal) S (ready s) q in
-        a .done .puts .bytes ∙ laid-over (written S) d l m
+        record {
+          stays = stays-set-out s after l (a .kept);
+          high = a .done .high;
+          many = a .done .many;
+          long = omega (arith, a .done .puts .ahead);
+          bytes = λ n m. a .done .puts .bytes ∙ laid-over (written S) z n m;
+        }

@@ -5,7 +5,7 @@ use packet::File;
 use packet::Reason;
 use request::refused;
 use request::search_files;
-use room::clear;
+use start::clear;
 ghost use Rattle.propose.specs.Proposed.{Proposes};
 
 // What a search answers: the height, nodes and length in bytes of the strip written, or why there is none, with the file and a place.

@@ -1,13 +1,17 @@
-// A search in three parts: whether there is a strip, its measures, and the strip written. The buffer is touched by the last of them alone, when the whole answer is
-// known (document 01, "Which strip the search writes", "What comes back").
+// A search in three parts, once the room is set out: whether there is a strip, the strip drawn once with its measures, and its bytes copied. The buffer is touched by the last of them alone,
+// when the whole answer is known (document 01, "Which strip the search writes", "What comes back").
 use crate::Proposal;
+use keys::fill_keys;
+use narrow::fill_heads;
 use packet::File;
-use packet::Read;
 use packet::Reason;
-use packet::read_books;
+use pen::put;
 use provable::prove_goal;
-use room::fill_tables;
-use room::first_place;
+use reader::Read;
+use reader::read_books;
+use start::fill_tables;
+use start::first_place;
+use table::empty_all;
 use writer::Drawn;
 use writer::write_goal;
 ghost use mathlib.Core.Path.{_≡_};
@@ -15,7 +19,17 @@ ghost use Prim.Native.Nat.{min};
 ghost use Rattle.packet.specs.File.{mostBytes};
 ghost use Rattle.packet.specs.declared.File.the-variants as F;
 ghost use Rattle.propose.specs.Proposed.{Comes, proposal};
-ghost use Rattle.propose.specs.Parts.{Telling, Measuring, Filling, Searching, Answering};
+ghost use Rattle.propose.specs.Parts.{Setting, Telling, Measuring, Filling, Searching, Answering};
+
+// The room as a search needs it: the tables of rules and candidates, their numbers, the heads of rules, and an empty table of atoms.
+fn set_out(rules: &[u8], terms: &[u8], room: &mut [u32])
+    ensures { λ _. ⌜ Setting (now (rules .entry)) (now (terms .entry)) (now (room .entry)) (now (room .exit)) ⌝ }
+{
+    fill_tables(rules, terms, room);
+    fill_keys(rules, terms, room);
+    fill_heads(rules, room);
+    empty_all(room);
+}
 
 // Whether there is a strip within the height.
 fn has_proof<'a>(
@@ -30,7 +44,7 @@ fn has_proof<'a>(
     prove_goal(rules, goal, terms, room, first_place(), height)
 }
 
-// The height, nodes and length of the first strip. It is drawn, but into a buffer that nobody reads.
+// The first strip drawn into the scratch buffer, as far as that has room, and its height, nodes and length.
 fn measure<'a>(
     rules: &'a [u8],
     goal: &'a [u8],
@@ -39,23 +53,9 @@ fn measure<'a>(
     scratch: &mut [u8],
     room: &mut [u32],
 ) -> Drawn
-    ensures { λ r. ⌜ Measuring height (now (rules .entry)) (now (goal .entry)) (now (terms .entry)) (now (room .entry)) (now (room .exit)) r ⌝ }
+    ensures { λ r. ⌜ Measuring height (now (rules .entry)) (now (goal .entry)) (now (terms .entry)) (now (room .entry)) (now (room .exit)) (now (scratch .entry)) (now (scratch .exit)) r ⌝ }
 {
     write_goal(rules, goal, terms, room, scratch, first_place(), height, 0)
-}
-
-// The first strip, drawn into a buffer that has room for it.
-fn write<'a>(
-    rules: &'a [u8],
-    goal: &'a [u8],
-    terms: &'a [u8],
-    height: usize,
-    strip: &mut [u8],
-    room: &mut [u32],
-)
-    ensures { λ _. ⌜ Filling height (now (rules .entry)) (now (goal .entry)) (now (terms .entry)) (now (room .entry)) (now (strip .entry)) (now (strip .exit)) ⌝ }
-{
-    write_goal(rules, goal, terms, room, strip, first_place(), height, 0);
 }
 
 // The longest strip that a buffer of so many bytes may get.
@@ -76,32 +76,47 @@ pub(crate) fn refused(reason: Reason) -> Proposal
     }
 }
 
-// The search of a packet that is read. What is drawn into the scratch buffer does not matter.
+// The first strip, where there is one: drawn once, and its bytes copied if the buffer has room for them. The scratch buffer has as many bytes as a strip may have, and is
+// made here, so that a search without a proof does not pay for it.
+fn write<'a>(
+    rules: &'a [u8],
+    goal: &'a [u8],
+    terms: &'a [u8],
+    height: usize,
+    strip: &mut [u8],
+    room: &mut [u32],
+) -> Proposal
+    ensures { λ r. ⌜ Filling height (now (rules .entry)) (now (goal .entry)) (now (terms .entry)) (now (room .entry)) (now (strip .entry)) (now (strip .exit)) r ⌝ }
+{
+    let mut scratch = [0u8; 16384];
+    let first = measure(rules, goal, terms, height, &mut scratch, room);
+    if longest(strip.len()) < first.at {
+        return refused(Reason::Buffer);
+    }
+    put(strip, 0, &scratch[..first.at]);
+    Proposal::Found {
+        height: first.height,
+        nodes: first.nodes,
+        length: first.at,
+    }
+}
+
+// The search of a packet that is read.
 fn search_goal<'a>(
     rules: &'a [u8],
     goal: &'a [u8],
     terms: &'a [u8],
     height: usize,
     strip: &mut [u8],
-    scratch: &mut [u8],
     room: &mut [u32],
 ) -> Proposal
     ensures { λ r. ⌜ Searching height (now (rules .entry)) (now (goal .entry)) (now (terms .entry)) (now (room .entry)) (now (strip .entry)) (now (strip .exit)) r ⌝ }
 {
-    fill_tables(rules, terms, room);
+    set_out(rules, terms, room);
     if !has_proof(rules, goal, terms, height, room) {
         return refused(Reason::NoProof);
     }
-    let first = measure(rules, goal, terms, height, scratch, room);
-    if longest(strip.len()) < first.at {
-        return refused(Reason::Buffer);
-    }
-    write(rules, goal, terms, height, strip, room);
-    Proposal::Found {
-        height: first.height,
-        nodes: first.nodes,
-        length: first.at,
-    }
+    write(rules, goal, terms, height, strip, room)
 }
 
 // The height and the three files, with room enough. What is left in the room does not matter.
@@ -124,9 +139,6 @@ pub(crate) fn search_files<'a>(
             file,
             place: 0,
         },
-        Read::Sound(_, _) => {
-            let mut scratch = [0u8; 1];
-            search_goal(rules, goal, terms, height, strip, &mut scratch, room)
-        }
+        Read::Sound(_, _) => search_goal(rules, goal, terms, height, strip, room),
     }
 }

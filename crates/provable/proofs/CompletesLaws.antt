@@ -18,7 +18,7 @@ use Rattle.harrop.proofs.ListLaws.{member-below}
 use Rattle.room.specs.Frame.{boundTo}
 use Rattle.room.proofs.FrameLaws.{bound-means}
 use Rattle.mentions.specs.Open.{unset, isUnset, isOpen, Becomes}
-use Rattle.provable.specs.Filling.{unsets, setTo, Fills, Completes}
+use Rattle.provable.specs.Frames.{unsets, setTo, Fills, Completes}
 use Rattle.provable.proofs.AlikeLaws.{Alike}
 
 -- what is unset
@@ -63,6 +63,23 @@ open-below own bs v e =
     let (l, u) = both-true (ltb v own) (isUnset (boundTo bs v)) e in
     (ltb-true v own l, unset-below bs v u)
 
+-- whether a variable is depends on its binding alone, and none is beyond the clause's own
+pub open-same : (own : ℕ) (bs ds : Bindings) (v : ℕ) → boundTo bs v ≡ boundTo ds v → isOpen own bs v ≡ isOpen own ds v
+unfolding isOpen
+open-same own bs ds v e = ap (λ (b : Binding). ltb v own && isUnset b) e
+
+and-no : (a b : Bool) → b ≡ false → a && b ≡ false
+and-no true b e = e
+and-no false b e = refl
+
+pub open-not : (own : ℕ) (bs : Bindings) (v : ℕ) → isUnset (boundTo bs v) ≡ false → isOpen own bs v ≡ false
+unfolding isOpen
+open-not own bs v e = and-no (ltb v own) (isUnset (boundTo bs v)) e
+
+pub open-beyond : (own : ℕ) (bs : Bindings) (v : ℕ) → own ≤ v → isOpen own bs v ≡ false
+unfolding isOpen
+open-beyond own bs v l = ap (λ (b : Bool). b && isUnset (boundTo bs v)) (le-ltb v own l)
+
 -- a frame with another binding for a variable
 pub set-long : (v : ℕ) (d : Binding) (bs : Bindings) → length (setTo v d bs) ≡ length bs
 set-long v d [] = refl
@@ -83,11 +100,6 @@ set-there zero (suc i) d (b ∷ bs) n = refl
 set-there (suc v) zero d (b ∷ bs) n = refl
 set-there (suc v) (suc i) d (b ∷ bs) n = set-there v i d bs (λ e. n (ap suc e))
 
-pub set-twice : (v : ℕ) (d b : Binding) (bs : Bindings) → setTo v d (setTo v b bs) ≡ setTo v d bs
-set-twice v d b [] = refl
-set-twice zero d b (x ∷ bs) = refl
-set-twice (suc v) d b (x ∷ bs) = ap (λ (z : Bindings). x ∷ z) (set-twice v d b bs)
-
 pub set-same : (v : ℕ) (bs : Bindings) → setTo v (boundTo bs v) bs ≡ bs
 unfolding boundTo
 set-same v [] = refl
@@ -102,16 +114,10 @@ set-open own bs v e =
     ap (λ (d : Binding). setTo v d bs) (sym u) ∙ set-same v bs
 
 pub open-there : (own v i : ℕ) (d : Binding) (bs : Bindings) → (i ≡ v → ⊥) → isOpen own (setTo v d bs) i ≡ isOpen own bs i
-unfolding isOpen
-open-there own v i d bs n = ap (λ (b : Binding). ltb i own && isUnset b) (set-there v i d bs n)
-
-and-no : (a b : Bool) → b ≡ false → a && b ≡ false
-and-no true b e = e
-and-no false b e = refl
+open-there own v i d bs n = open-same own (setTo v d bs) bs i (set-there v i d bs n)
 
 pub open-here : (own v : ℕ) (d : Binding) (bs : Bindings) → v < length bs → isUnset d ≡ false → isOpen own (setTo v d bs) v ≡ false
-unfolding isOpen
-open-here own v d bs l n = and-no (ltb v own) (isUnset (boundTo (setTo v d bs) v)) (ap isUnset (set-here v d bs l) ∙ n)
+open-here own v d bs l n = open-not own (setTo v d bs) v (ap isUnset (set-here v d bs l) ∙ n)
 
 -- where only variables up to v may be open: those before it, if it is not, or if it is set
 pub open-less : (own k : ℕ) (bs : Bindings) → ((i : ℕ) → suc k ≤ i → isOpen own bs i ≡ false) → isOpen own bs k ≡ false → (i : ℕ) → k ≤ i → isOpen own bs i ≡ false

@@ -20,10 +20,14 @@ use Rattle.room.proofs.FrameLaws.{bound-means}
 use Rattle.mentions.specs.Open.{unset, isOpen, Becomes}
 use Rattle.provable.specs.Provable.{anyFrom, candidateDoes, candidatesFrom, through, ending, provable}
 use Rattle.provable.specs.Proving.{passes}
-use Rattle.provable.specs.Filling.{alls, unsets, setTo, Completes, Fillable, FillableWith, LookedAll, LookedNew, HeadIn, PartsIn}
+use Rattle.provable.specs.Parts.{isPlain, quantifiers, core}
+use Rattle.provable.specs.Frames.{alls, unsets, setTo, Completes}
+use Rattle.provable.specs.First.{FirstFrame}
+use Rattle.provable.specs.Filling.{Fillable, Filled, Fails, FilledWith, LookedAll, LookedNew, HeadIn, PartsIn}
 use Rattle.provable.specs.declared.plain.Parts.{Parts}
 use Rattle.provable.proofs.AlikeLaws.{passes-alike}
-use Rattle.provable.proofs.CompletesLaws.{may-is, may-below, may-too, open-below, set-open, set-twice, set-alike, completes-becomes, completes-only, completes-self, completes-less, completes-more, completes-swap, completes-with, completes-from}
+use Rattle.provable.proofs.CompletesLaws.{may-is, may-below, may-too, open-beyond, open-below, set-open, set-alike, completes-becomes, completes-only, completes-less, completes-more, completes-swap, completes-with, completes-from}
+use Rattle.provable.proofs.FirstLaws.{first-completes}
 use Rattle.provable.proofs.LookedLaws.{looked-set, looked-whole}
 
 -- one that answers yes, found and given
@@ -40,7 +44,7 @@ or-true : (a b : Bool) → b ≡ true → a || b ≡ true
 or-true true b e = refl
 or-true false b e = e
 
-any-of : (f : ℕ → Bool) (i n j : ℕ) → i ≤ j → j < i + n → f j ≡ true → anyFrom f i n ≡ true
+pub any-of : (f : ℕ → Bool) (i n j : ℕ) → i ≤ j → j < i + n → f j ≡ true → anyFrom f i n ≡ true
 unfolding anyFrom
 any-of f i zero j l m e = absurd (omega arith)
 any-of f i (suc n) j l m e = go (eqb i j) refl (λ z. any-of f (suc i) n j z (omega arith) e)
@@ -49,11 +53,11 @@ any-of f i (suc n) j l m e = go (eqb i j) refl (λ z. any-of f (suc i) n j z (om
     go true h k = ap (λ (k : ℕ). f k || anyFrom f (suc i) n) (eqb-true i j h) ∙ ap (λ (b : Bool). b || anyFrom f (suc i) n) e
     go false h k = let d = eqb-false i j h in or-true (f i) (anyFrom f (suc i) n) (k (omega arith))
 
-refuted : (b : Bool) → (b ≡ true → ⊥) → b ≡ false
+pub refuted : (b : Bool) → (b ≡ true → ⊥) → b ≡ false
 refuted true n = absurd (n refl)
 refuted false n = refl
 
-and-none : (b : Bool) → b && false ≡ false
+pub and-none : (b : Bool) → b && false ≡ false
 and-none true = refl
 and-none false = refl
 
@@ -70,9 +74,22 @@ parts-head f room p (Clause.impD g b) fr h = (b, refl, h .1)
 parts-head f room p (Clause.allD q d) fr h = absurd h
 parts-head f room p (Clause.andD d e) fr h = absurd h
 
+-- a clause with no `and` on the way to its head is its quantifiers around what is inside them, and has a head there
+pub plain-is : (d : Clause Plain) → isPlain d ≡ true → alls (quantifiers d) (core d) ≡ d
+plain-is (Clause.atomD b) e = refl
+plain-is (Clause.impD g b) e = refl
+plain-is (Clause.allD q d) e = ap (Clause.allD q) (plain-is d e)
+plain-is (Clause.andD c d) e = absurd (false≢true e)
+
+pub plain-has-head : (d : Clause Plain) → isPlain d ≡ true → (b : Atom) × HeadOf (core d) b
+plain-has-head (Clause.atomD b) e = (b, refl)
+plain-has-head (Clause.impD g b) e = (b, refl)
+plain-has-head (Clause.allD q d) e = plain-has-head d e
+plain-has-head (Clause.andD c d) e = absurd (false≢true e)
+
 module _ (us : List Term) (left : ℕ) (o : List Plain) (c : Hand Plain) (bs : Bindings) (a : Atom) where
   -- so many quantifiers around a clause
-  alls-yes : (m : ℕ) (e : Clause Plain) (bs′ : Bindings) → passes us left o c bs a (alls m e) bs′ ≡ true → (ds : Bindings) × Completes us o m (unsets m bs′) ds × (passes us left o c bs a e ds ≡ true)
+  pub alls-yes : (m : ℕ) (e : Clause Plain) (bs′ : Bindings) → passes us left o c bs a (alls m e) bs′ ≡ true → (ds : Bindings) × Completes us o m (unsets m bs′) ds × (passes us left o c bs a e ds ≡ true)
   unfolding through candidatesFrom candidateDoes
   alls-yes zero e bs′ p = (bs′, refl, p)
   alls-yes (suc m) e bs′ p =
@@ -106,7 +123,7 @@ module _ (us : List Term) (left : ℕ) (o : List Plain) (c : Hand Plain) (bs : B
   head-no (Clause.allD q d) b ds h s = absurd h
   head-no (Clause.andD d e) b ds h s = absurd h
 
-  head-yes : (e : Clause Plain) (b : Atom) (ds : Bindings) → HeadOf e b → passes us left o c bs a e ds ≡ true → sameAtom (replacedAtom us ds b) (replacedAtom us bs a) ≡ true
+  pub head-yes : (e : Clause Plain) (b : Atom) (ds : Bindings) → HeadOf e b → passes us left o c bs a e ds ≡ true → sameAtom (replacedAtom us ds b) (replacedAtom us bs a) ≡ true
   head-yes e b ds h p = go (sameAtom (replacedAtom us ds b) (replacedAtom us bs a)) refl
     where
       go : (x : Bool) → sameAtom (replacedAtom us ds b) (replacedAtom us bs a) ≡ x → sameAtom (replacedAtom us ds b) (replacedAtom us bs a) ≡ true
@@ -171,37 +188,33 @@ module _ (us : List Term) (left : ℕ) (o : List Plain) (c : Hand Plain) (bs : B
 
   module _ (e : Clause Plain) (m : ℕ) (fr : Bindings) (v : ℕ) where
     -- with candidate i
-    pub with-barred : (i : ℕ) → allowed (listed us) o tt i ≡ false → FillableWith us left o c bs a e m v i fr false
-    with-barred i n = record { yes = λ z. absurd (false≢true z); no = λ z w. absurd (false≢true (sym n ∙ w)) }
+    pub with-fails : (i : ℕ) (end : Bindings) → Fails us left o c bs a e m v i fr → FilledWith us left o c bs a e m v i fr end false
+    with-fails i end n = record { yes = λ z. absurd (false≢true z); no = λ z. n }
 
-    pub with-goes : (i : ℕ) (r : Bool) → v < m → allowed (listed us) o tt i ≡ true → Fillable us left o c bs a e m (setTo v (Candidate i) fr) r → FillableWith us left o c bs a e m v i fr r
-    with-goes i r l w f =
-        record {
-          yes = λ z. let (ds, k, p) = f .yes z in (ds, completes-less us o m v i fr ds l w k, p);
-          no = λ z w′. f .no z;
-        }
+    pub with-barred : (i : ℕ) (end : Bindings) → allowed (listed us) o tt i ≡ false → FilledWith us left o c bs a e m v i fr end false
+    with-barred i end n = with-fails i end (λ w. absurd (false≢true (sym n ∙ w)))
 
-    -- whatever stands there
-    pub with-any : (i : ℕ) (d : Binding) (r : Bool) → FillableWith us left o c bs a e m v i (setTo v d fr) r → FillableWith us left o c bs a e m v i fr r
-    with-any i d r f =
-        record {
-          yes = λ z. let (ds, k, p) = f .yes z in (ds, subst (λ (x : Bindings). Completes us o m x ds) (set-twice v unset d fr) k, p);
-          no = λ z w ds k. f .no z w ds (subst (λ (x : Bindings). Completes us o m x ds) (sym (set-twice v (Candidate i) d fr)) k);
-        }
+    pub with-goes : (i : ℕ) (end : Bindings) (r : Bool) → allowed (listed us) o tt i ≡ true → Filled us left o c bs a e m v (setTo v (Candidate i) fr) end r → FilledWith us left o c bs a e m v i fr end r
+    with-goes i end r w f = record { yes = λ z. (w, f .yes z .0, f .yes z .1); no = λ z w′. f .no z }
 
     -- one candidate after the other
-    pub each-hit : (i : ℕ) → isOpen m fr v ≡ true → FillableWith us left o c bs a e m v i fr true → Fillable us left o c bs a e m fr true
-    each-hit i u f =
+    pub each-hit : (i : ℕ) (end : Bindings) → isOpen m fr v ≡ true → ((j : ℕ) → j < i → Fails us left o c bs a e m v j fr) → FilledWith us left o c bs a e m v i fr end true → Filled us left o c bs a e m (suc v) fr end true
+    each-hit i end u n f =
+        let (w, t, p) = f .yes refl in
+        record { yes = λ z. (FirstFrame.tried i u w n t, p); no = λ z. absurd (false≢true (sym z)) }
+
+    pub each-done : (end : Bindings) → isOpen m fr v ≡ true → ((i : ℕ) → i < length us → Fails us left o c bs a e m v i fr) → Filled us left o c bs a e m (suc v) fr end false
+    each-done end u f =
         record {
-          yes = λ z. let (ds, k, p) = f .yes refl in (ds, subst (λ (x : Bindings). Completes us o m x ds) (set-open m fr v u) k, p);
-          no = λ z. absurd (false≢true (sym z));
+          yes = λ z. absurd (false≢true z);
+          no = λ z ds k.
+              let (i, w, s, k′) = completes-more us o m v fr ds (open-below m fr v u .0) (subst (λ (x : Bindings). Completes us o m x ds) (sym (set-open m fr v u)) k) in
+              f i (may-below us o i w) w ds k′;
         }
 
-    pub each-done : isOpen m fr v ≡ true → ((i : ℕ) → i < length us → FillableWith us left o c bs a e m v i fr false) → Fillable us left o c bs a e m fr false
-    each-done u f =
-        never-fills e m fr (λ ds k.
-        let (i, w, s, k′) = completes-more us o m v fr ds (open-below m fr v u .0) (subst (λ (z : Bindings). Completes us o m z ds) (sym (set-open m fr v u)) k) in
-        f i (may-below us o i w) .no refl w ds k′)
+    -- a variable that is set
+    pub set-goes : (end : Bindings) (r : Bool) → isOpen m fr v ≡ false → Filled us left o c bs a e m v fr end r → Filled us left o c bs a e m (suc v) fr end r
+    set-goes end r n f = record { yes = λ z. (FirstFrame.set n (f .yes z .0), f .yes z .1); no = f .no }
 
   -- nothing is open: the body has a proof, and the head decides
   ends-well : (e : Clause Plain) (b : Atom) (m : ℕ) (fr : Bindings) → ((i : ℕ) → isOpen m fr i ≡ false) → HeadOf e b → LookedAll us left o c m e fr → sameAtom (replacedAtom us fr b) (replacedAtom us bs a) ≡ true → passes us left o c bs a e fr ≡ true
@@ -211,11 +224,19 @@ module _ (us : List Term) (left : ℕ) (o : List Plain) (c : Hand Plain) (bs : B
   ends-well (Clause.allD q d) b m fr n h k s = absurd h
   ends-well (Clause.andD d e) b m fr n h k s = absurd h
 
-  pub filled : (e : Clause Plain) (b : Atom) (m : ℕ) (fr : Bindings) (r : Bool) → HeadOf e b → m ≤ length fr → ((i : ℕ) → isOpen m fr i ≡ false) → LookedAll us left o c m e fr → r ≡ sameAtom (replacedAtom us fr b) (replacedAtom us bs a) → Fillable us left o c bs a e m fr r
-  filled e b m fr r h l n k s =
+  pub filled : (e : Clause Plain) (b : Atom) (m : ℕ) (fr : Bindings) (r : Bool) → HeadOf e b → ((i : ℕ) → isOpen m fr i ≡ false) → LookedAll us left o c m e fr → r ≡ sameAtom (replacedAtom us fr b) (replacedAtom us bs a) → Filled us left o c bs a e m zero fr fr r
+  filled e b m fr r h n k s =
       record {
-        yes = λ z. (fr, completes-self us o m fr l n, ends-well e b m fr n h k (sym s ∙ z));
+        yes = λ z. (FirstFrame.whole, ends-well e b m fr n h k (sym s ∙ z));
         no = λ z ds q. ap (λ (x : Bindings). passes us left o c bs a e x) (completes-only us o m fr ds n q) ∙ head-no e b fr h (sym s ∙ z);
+      }
+
+  -- where all own variables may be unset, the first completion is one
+  pub filled-fillable : (e : Clause Plain) (m : ℕ) (fr end : Bindings) (r : Bool) → length us ≤ 2147483647 → m ≤ length fr → Filled us left o c bs a e m m fr end r → Fillable us left o c bs a e m fr r
+  filled-fillable e m fr end r few l f =
+      record {
+        yes = λ z. (end, first-completes us o m (passes us left o c bs a e) few (omega arith) l (open-beyond m fr) (f .yes z .0), f .yes z .1);
+        no = f .no;
       }
 
   -- the goals of the body, once variable v is set

@@ -6,7 +6,8 @@ use mathlib.Core.Bool.{Bool, true, false}
 use mathlib.Core.List.{List}
 use mathlib.Core.Option.{none, some}
 use lib.Dec.{ltb}
-use lib.ListN.{length, getD, getElem?, take}
+use lib.ListN.{length, getD, getElem?, take, drop, length-drop}
+use lib.Seq.{getD-drop, drop-paste}
 use borrow.Author.Tests.{ltb-true, ltb-false, lt-ltb, le-ltb}
 use Rattle.basics.specs.Choice.{choose}
 use Rattle.harrop.specs.Formula.{Term, Atom, Goal, Clause}
@@ -19,15 +20,17 @@ use Rattle.packet.specs.Barred.{clauseOk}
 use Rattle.room.specs.Layout.{levels, rulesWord, ruleWord, stack}
 use Rattle.room.specs.Frame.{bindingsIn, copied}
 use Rattle.room.specs.Spot.{fileOf, bindingsAt, supposedIn}
-use Rattle.room.specs.Where.{Files, Live, Kept, Means}
+use Rattle.room.specs.Where.{Files, Live, Means}
 use Rattle.room.specs.declared.Source.the-variants as S
 use Rattle.room.specs.declared.Spot.{Spot}
 use Rattle.room.specs.declared.Where.{Where}
-use Rattle.room.proofs.FrameLaws.{frame-copied, copy-kept, copy-length, word-kept}
+use Rattle.room.proofs.FrameLaws.{copied-is, frame-copied, copy-kept, copy-length, word-kept}
 use Rattle.provable.specs.Hand.{ruleSpot, clauseIn, Opened}
+use Rattle.provable.specs.Stock.{Stock, Keeps}
 use Rattle.provable.specs.Proving.{Ready, Taken}
 use Rattle.provable.specs.declared.Chosen.{Chosen}
 use Rattle.provable.specs.declared.Chosen.the-variants as C
+use Rattle.provable.proofs.StockLaws.{stock-low}
 use Rattle.provable.proofs.ReadyLaws.{ready-kept}
 
 -- the code's three answers
@@ -113,11 +116,21 @@ module _ {f : Files} {room : List ℕ} {ds : List (Clause Plain)} {us : List Ter
   pub hand-is : (k : ℕ) (r : Chosen) → clauseIn room k (w .supposed) ≡ r → HandAt f room (w .top) c k r
   hand-is k r e = subst (λ (x : Chosen). HandAt f room (w .top) c k x) e (hand-at k)
 
+-- a frame copied on top leaves the words above it
+copy-above : (room : List ℕ) (base n top : ℕ) → base + n ≤ top → top + n ≤ length room → (i : ℕ) → top + n ≤ i → getD (copied room base n top) i 0 ≡ getD room i 0
+copy-above room base n top below inside i l =
+    let k = i - (top + n) in
+    ap (λ (j : ℕ). getD (copied room base n top) j 0) {x = i} {y = top + n + k} (omega arith)
+    ∙ (sym (getD-drop (top + n) (copied room base n top) k 0)
+    ∙ (ap (λ (s : List ℕ). getD s k 0) (ap (drop (top + n)) (copied-is room base n top below inside) ∙ drop-paste room top (drop base room) n (omega arith) (omega (arith, length-drop base room)))
+    ∙ (getD-drop (top + n) room k 0 ∙ ap (λ (j : ℕ). getD room j 0) {x = top + n + k} {y = i} (omega arith))))
+
 -- a clause opened: what the place relies on is kept, and the clause stands with a frame of its own
 pub record Opens (f : Files) (room after : List ℕ) (ds : List (Clause Plain)) (us : List Term) (w : Where) (y : Spot) (left : ℕ) (o : List Plain) (c : Hand Plain) (bs : Bindings) (a : Atom) (k : ℕ) : Type 0 where
   pub clause : AtHand Plain
   pub there : getElem? c k ≡ some clause
-  pub kept : Kept (w .supposed) (w .top) room after
+  pub kept : Keeps (Stock f ds us (w .supposed) c) (w .supposed) (w .top) room after
+  pub above : (i : ℕ) → y .base + y .count ≤ i → getD after i 0 ≡ getD room i 0
   pub taken : Taken f after ds us w y left o c bs a (clause .clause) (clause .bindings)
 
 module _ {f : Files} {room : List ℕ} {ds : List (Clause Plain)} {us : List Term} {w : Where} {left : ℕ} {o : List Plain} {c : Hand Plain} {bs : Bindings} {a : Atom} (r : Ready f room ds us w (suc left) o c bs (Goal.atom a)) where
@@ -131,11 +144,17 @@ module _ {f : Files} {room : List ℕ} {ds : List (Clause Plain)} {us : List Ter
       let inside : w .top + x .count ≤ length room = omega (arith, r .enough .bindings, r .long, b .shallow) in
       let front = ap (take (w .top)) n ∙ copy-kept room (x .base) (x .count) (w .top) (b .below) inside in
       let long = ap length n ∙ copy-length room (x .base) (x .count) (w .top) (b .below) inside in
-      let kept : Kept (w .supposed) (w .top) room after = λ i l. word-kept after room (w .top) i front (under i l high) in
+      let above : (i : ℕ) → w .top + x .count ≤ i → getD after i 0 ≡ getD room i 0 = λ i l. ap (λ (s : List ℕ). getD s i 0) n ∙ copy-above room (x .base) (x .count) (w .top) (b .below) inside i l in
+      let kept : Keeps (Stock f ds us (w .supposed) c) (w .supposed) (w .top) room after =
+      record {
+        words = λ i l. word-kept after room (w .top) i front (under i l high);
+        stock = stock-low long (λ i l. above i (omega (arith, r .low, b .shallow)));
+      } in
       record {
         clause = h;
         there = t;
         kept = kept;
+        above = λ i l. above i (omega (arith, ap (λ (z : Spot). z .base) q, ap (λ (z : Spot). z .count) q, l));
         taken =
             subst (λ (z : Spot). Taken f after ds us w z left o c bs a (h .clause) (h .bindings)) (sym q)
             (record {

@@ -1,64 +1,46 @@
--- A clause none of whose heads has an atom's predicate serves that atom nowhere, whichever candidates are chosen on the way (document 02, Three: no verdict and no strip changes).
+-- A clause none of whose heads becomes an atom serves that atom nowhere, whichever candidates are chosen on the way; so one none of whose heads has the atom's predicate. An atom that no head of a clause at hand becomes has no proof, and neither has a body that it is a goal of (document 02, Three: no verdict and no strip changes).
 use Prim.Native.Nat.{ℕ, zero, suc, _-_}
-use mathlib.Core.Path.{_≡_, refl, sym, _∙_, ap, ap₂}
-use mathlib.Core.Bool.{Bool, true, false, _&&_, _||_, false≢true}
+use mathlib.Core.Path.{_≡_, refl, ap, ap₂}
+use mathlib.Core.Bool.{Bool, true, false, _&&_, _||_}
 use mathlib.Core.List.{List, _∷_}
-use lib.Dec.{eqb}
-use lib.ListN.{length}
-use borrow.Author.Tests.{eq-eqb}
-use Rattle.basics.specs.Choice.{both-true}
+use mathlib.Core.Option.{Option, none, some}
+use lib.ListN.{length, getElem?}
+use Rattle.basics.specs.Choice.{maybe}
 use Rattle.harrop.specs.declared.Binding.the-variants.{Candidate}
-use Rattle.harrop.specs.Formula.{Term, Terms, Atom, Goal, Clause}
-use Rattle.harrop.specs.Bindings.{Bindings, replaced, replaceds, replacedAtom, sameName, sameTerm, sameTerms, sameAtom}
-use Rattle.harrop.specs.Place.{Candidates, Plain, allowed}
-use Rattle.heads.specs.Predicate.{arguments, samePredicate, hasHead}
-use Rattle.provable.specs.Provable.{anyFrom, candidateDoes, candidatesFrom, through, ending}
-
--- nothing that always answers no
-none-of : (f : ℕ → Bool) → ((i : ℕ) → f i ≡ false) → (i n : ℕ) → anyFrom f i n ≡ false
-unfolding anyFrom
-none-of f h i zero = refl
-none-of f h i (suc n) = ap₂ _||_ (h i) (none-of f h (suc i) n)
+use Rattle.harrop.specs.Formula.{Atom, Goal, Clause}
+use Rattle.harrop.specs.Bindings.{Bindings, replacedAtom}
+use Rattle.harrop.specs.Place.{Candidates, AtHand, Hand, Plain, allowed}
+use Rattle.heads.specs.Predicate.{hasHead}
+use Rattle.narrow.specs.Narrow.{NoHead}
+use Rattle.narrow.proofs.NoHeadLaws as heads
+use Rattle.provable.specs.Provable.{candidateDoes, candidatesFrom, through, ending, clauseDoes, clausesFrom, provable, serves}
+use Rattle.provable.proofs.WalkLaws.{any-no}
 
 and-false : (a b : Bool) → b ≡ false → a && b ≡ false
 and-false true b e = e
 and-false false b e = refl
 
-neither : (a b : Bool) → a || b ≡ false → (a ≡ false) × (b ≡ false)
-neither true b e = absurd (false≢true (sym e))
-neither false b e = (refl, e)
+module _ (cs : Candidates Plain) (o : List Plain) where
+  -- a clause none of whose heads becomes an atom
+  pub no-head-passes-not : (a : Atom) (prove : Goal Plain → Bindings → Bool) (d : Clause Plain) (bs : Bindings) → NoHead (cs .terms) bs d a → through cs o d bs (ending cs a prove) ≡ false
+  unfolding through ending candidatesFrom candidateDoes
+  no-head-passes-not a prove (Clause.atomD b) bs n = n
+  no-head-passes-not a prove (Clause.impD g b) bs n = ap (λ (z : Bool). z && prove g bs) n
+  no-head-passes-not a prove (Clause.allD q d) bs n =
+      any-no (candidateDoes cs o q (λ i. through cs o d (Candidate i ∷ bs) (ending cs a prove))) 0 (length (cs .terms) - 0)
+      (λ i l m. and-false (allowed cs o q i) (through cs o d (Candidate i ∷ bs) (ending cs a prove)) (no-head-passes-not a prove d (Candidate i ∷ bs) (n (Candidate i))))
+  no-head-passes-not a prove (Clause.andD c d) bs n = ap₂ _||_ (no-head-passes-not a prove c bs (n .0)) (no-head-passes-not a prove d bs (n .1))
 
--- replacing variables leaves the number of arguments
-replaced-many : (cs : List Term) (bs : Bindings) (ts : Terms) → arguments (replaceds cs bs ts) ≡ arguments ts
-replaced-many cs bs Terms.nil = refl
-replaced-many cs bs (Terms.cons t ts) = ap suc (replaced-many cs bs ts)
+  -- such is one none of whose heads has the atom's predicate
+  pub headless : (bs₀ : Bindings) (a : Atom) (prove : Goal Plain → Bindings → Bool) (d : Clause Plain) (bs : Bindings) → hasHead d a ≡ false → through cs o d bs (ending cs (replacedAtom (cs .terms) bs₀ a) prove) ≡ false
+  headless bs₀ a prove d bs e = no-head-passes-not (replacedAtom (cs .terms) bs₀ a) prove d bs (heads.headless (cs .terms) bs₀ a d e bs)
 
-same-many : (ts us : Terms) → sameTerms ts us ≡ true → arguments ts ≡ arguments us
-same-many Terms.nil Terms.nil e = refl
-same-many Terms.nil (Terms.cons u us) e = absurd (false≢true e)
-same-many (Terms.cons t ts) Terms.nil e = absurd (false≢true e)
-same-many (Terms.cons t ts) (Terms.cons u us) e = ap suc (same-many ts us (both-true (sameTerm t u) (sameTerms ts us) e .1))
-
--- atoms of different predicates are never the same
-pub other-predicate : (cs : List Term) (bs ds : Bindings) (a b : Atom) → samePredicate a b ≡ false → sameAtom (replacedAtom cs bs a) (replacedAtom cs ds b) ≡ false
-unfolding samePredicate
-other-predicate cs bs ds (Atom.atom n ts) (Atom.atom m us) e = go (sameName n m) (sameTerms (replaceds cs bs ts) (replaceds cs ds us)) refl refl
-  where
-    differ : sameName n m ≡ true → sameTerms (replaceds cs bs ts) (replaceds cs ds us) ≡ true → true ≡ false
-    differ p q =
-        sym (ap₂ _&&_ p (eq-eqb (arguments ts) (arguments us) (sym (replaced-many cs bs ts) ∙ same-many (replaceds cs bs ts) (replaceds cs ds us) q ∙ replaced-many cs ds us))) ∙ e
-
-    go : (p q : Bool) → sameName n m ≡ p → sameTerms (replaceds cs bs ts) (replaceds cs ds us) ≡ q → p && q ≡ false
-    go false q e f = refl
-    go true false e f = refl
-    go true true e f = differ e f
-
-module _ (cs : Candidates Plain) (o : List Plain) (bs₀ : Bindings) (a : Atom) (prove : Goal Plain → Bindings → Bool) where
-  pub headless : (d : Clause Plain) (bs : Bindings) → hasHead d a ≡ false → through cs o d bs (ending cs (replacedAtom (cs .terms) bs₀ a) prove) ≡ false
-  unfolding hasHead through ending candidatesFrom candidateDoes
-  headless (Clause.atomD b) bs e = other-predicate (cs .terms) bs bs₀ b a e
-  headless (Clause.impD g b) bs e = ap (λ (z : Bool). z && prove g bs) (other-predicate (cs .terms) bs bs₀ b a e)
-  headless (Clause.allD q d) bs e =
-      none-of (candidateDoes cs o q (λ i. through cs o d (Candidate i ∷ bs) (ending cs (replacedAtom (cs .terms) bs₀ a) prove)))
-      (λ i. and-false (allowed cs o q i) (through cs o d (Candidate i ∷ bs) (ending cs (replacedAtom (cs .terms) bs₀ a) prove)) (headless d (Candidate i ∷ bs) e)) 0 (length (cs .terms) - 0)
-  headless (Clause.andD c d) bs e = let (p, q) = neither (hasHead c a) (hasHead d a) e in ap₂ _||_ (headless c bs p) (headless d bs q)
+  -- an atom that no head of a clause at hand becomes
+  pub no-head-no-proof : (c : Hand Plain) (bs : Bindings) (a : Atom) → ((k : ℕ) (h : AtHand Plain) → getElem? c k ≡ some h → NoHead (cs .terms) (h .bindings) (h .clause) (replacedAtom (cs .terms) bs a)) → (h : ℕ) → provable cs h o c bs (Goal.atom a) ≡ false
+  unfolding provable clausesFrom clauseDoes
+  no-head-no-proof c bs a n zero = refl
+  no-head-no-proof c bs a n (suc h) = any-no (clauseDoes cs o c (serves cs h o c bs a)) 0 (length c - 0) (λ k l m. go k (getElem? c k) refl)
+    where
+      go : (k : ℕ) (x : Option (AtHand Plain)) → getElem? c k ≡ x → (maybe x false λ d. through cs o (d .clause) (d .bindings) (serves cs h o c bs a)) ≡ false
+      go k none e = refl
+      go k (some d) e = no-head-passes-not (replacedAtom (cs .terms) bs a) (λ g ds. provable cs h o c ds g) (d .clause) (d .bindings) (n k d e)

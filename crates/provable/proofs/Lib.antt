@@ -1,5 +1,8 @@
 pub mod ProvableLaws
 pub mod WalkLaws
+pub mod TruthLaws
+pub mod StockLaws
+pub mod RecallLaws
 pub mod ReadyLaws
 pub mod HandLaws
 pub mod ProvingLaws
@@ -8,9 +11,13 @@ pub mod OccursLaws
 pub mod AlikeLaws
 pub mod CompletesLaws
 pub mod LookedLaws
+pub mod FirstLaws
 pub mod FillingLaws
+pub mod AtomLaws
 pub mod PassingLaws
 pub mod PlainLaws
 pub mod PartsLaws
 pub mod SettleLaws
 pub mod FillLaws
+pub mod TriedLaws
+pub mod LocatingLaws

@@ -15,7 +15,8 @@ use Rattle.heads.specs.Heads.{goalWord}
 use Rattle.mentions.specs.Mentions.{mentionsGoal}
 use Rattle.mentions.specs.Open.{isOpen, asked, Becomes}
 use Rattle.provable.specs.Provable.{provable}
-use Rattle.provable.specs.Filling.{setTo, Due, LookedOne, Looked, Looks}
+use Rattle.provable.specs.Frames.{setTo}
+use Rattle.provable.specs.Filling.{Due, LookedOne, Looked, Looks}
 use Rattle.provable.proofs.OccursLaws.{or-false, Fewer, goal-fewer, goal-never}
 use Rattle.provable.proofs.AlikeLaws.{AlikeBut, hands-same, provable-but}
 use Rattle.provable.proofs.CompletesLaws.{completes-becomes, open-there, value-there}

@@ -20,11 +20,11 @@ use Rattle.sexp.specs.Past.{PastAt}
 use Rattle.sexp.specs.Sexp.{Sexp, Stands, nesting}
 use Rattle.packet.specs.declared.Word.{Word}
 use Rattle.packet.specs.declared.Word.the-variants as W
-use Rattle.packet.specs.WordAt.{WordAt}
+use Rattle.reader.specs.WordAt.{WordAt}
 use Rattle.packet.specs.Written.{clauseSexp}
 use Rattle.packet.specs.File.{mostBytes}
 use Rattle.packet.proofs.Word.{the-type}
-use Rattle.packet.proofs.TableLaws.{out}
+use Rattle.rows.proofs.TableLaws.{out}
 use Rattle.room.specs.Where.{Files, plus, further}
 use Rattle.room.specs.declared.Spot.{Spot}
 use Rattle.room.proofs.NestLaws.{clause-nests}

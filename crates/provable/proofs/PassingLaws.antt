@@ -20,36 +20,42 @@ use Rattle.sexp.specs.Past.{PastAt}
 use Rattle.sexp.specs.Sexp.{Sexp, Stands, nesting}
 use Rattle.packet.specs.declared.Word.{Word}
 use Rattle.packet.specs.declared.Word.the-variants as W
-use Rattle.packet.specs.WordAt.{WordAt}
+use Rattle.reader.specs.WordAt.{WordAt}
 use Rattle.packet.specs.declared.Kind.the-variants as K
-use Rattle.packet.specs.declared.table.Row.the-variants as R
-use Rattle.packet.specs.Rows.{rowOf}
+use Rattle.rows.specs.declared.table.Row.the-variants as R
+use Rattle.rows.specs.Rows.{rowOf}
 use Rattle.packet.specs.Table.{dueAfter}
 use Rattle.packet.specs.Barred.{goalOk, clauseOk}
 use Rattle.packet.specs.Written.{goalSexp, clauseSexp}
 use Rattle.room.specs.Layout.{candidatesWord, highestWord}
 use Rattle.room.specs.Frame.{bindingWord, held, bindingsIn}
-use Rattle.room.specs.Where.{Files, Kept, Framed, plus, further}
+use Rattle.room.specs.Where.{Files, Framed, plus, further}
 use Rattle.room.specs.declared.Spot.{Spot}
 use Rattle.room.specs.declared.Where.{Where}
 use Rattle.room.proofs.FrameLaws.{frame-pushed}
 use Rattle.room.proofs.NestLaws.{clause-nests}
-use Rattle.room.proofs.WhereLaws.{kept-then, kept-less, framed-kept, file-small, plus-inside, push-keeps}
+use Rattle.room.proofs.WhereLaws.{framed-kept, file-small, plus-inside}
 use Rattle.room.proofs.MoveLaws.{hand-higher}
 use Rattle.provable.specs.Hand.{deeper, Opened}
 use Rattle.provable.specs.Provable as spec
+use Rattle.provable.specs.Stock.{Stock, Keeps}
 use Rattle.provable.specs.Proving.{Ready, Taken, Answers, ProvingBy, Passing, PassingAs, PassingWith, passes, passesWith}
 use Rattle.provable.specs.declared.Chosen.{Chosen}
 use Rattle.provable.specs.declared.Chosen.the-variants as C
-use Rattle.heads.specs.Predicate.{HasHead}
+use Rattle.heads.specs.Predicate.{ClauseThere, HasHead}
 use Rattle.provable.proofs.HeadlessLaws.{headless}
 use Rattle.provable.proofs.WalkLaws.{any-here, any-none}
+use Rattle.provable.proofs.StockLaws.{keeps-same, keeps-then, keeps-less, keeps-push}
 use Rattle.heads.proofs.HeadLaws.{clause-says, clause-is, clause-has-row, heads, first-part, second-found, first-found}
 use Rattle.provable.proofs.ReadyLaws.{may-be, allowed-below, ready-kept}
 use Rattle.provable.proofs.HandLaws.{opened-none, opened-clause}
 use Rattle.provable.proofs.ProvingLaws.{bytesAt, and-no, and-yes, or-yes, or-no, both-of}
 
 module _ {f : Files} {room : List ℕ} {ds : List (Clause Plain)} {us : List Term} {w : Where} {x : Spot} {left : ℕ} {o : List Plain} {c : Hand Plain} {bs : Bindings} {a : Atom} {d : Clause Plain} {bs′ : Bindings} (t : Taken f room ds us w x left o c bs a d bs′) where
+  -- the clause, as those that read its bytes ask for it
+  pub clause-there : ClauseThere f x d
+  clause-there = record { stands = t .framed .stands; shallow = omega (arith, t .framed .shallow); small = file-small (t .ready .place .booked) (x .source) }
+
   -- a part of what stands there
   part-framed : (n : ℕ) {e : Sexp} → Stands (bytesAt f x) (x .at + n) e → nesting e ≤ nesting (clauseSexp d) → Framed f room (further x n) (x .base + x .count) e bs′
   part-framed n {e} h l =
@@ -65,20 +71,20 @@ module _ {f : Files} {room : List ℕ} {ds : List (Clause Plain)} {us : List Ter
   taken-part n d′ h l ok = record { ready = t .ready; framed = part-framed n h l; scoped = ok; fresh = t .fresh }
 
   -- the same after a call that keeps what is below the frame's end
-  pub taken-kept : {after : List ℕ} → Kept (w .supposed) (x .base + x .count) room after → length after ≡ length room → Taken f after ds us w x left o c bs a d bs′
+  pub taken-kept : {after : List ℕ} → Keeps (Stock f ds us (w .supposed) c) (w .supposed) (x .base + x .count) room after → length after ≡ length room → Taken f after ds us w x left o c bs a d bs′
   taken-kept {after} k e =
       record {
-        ready = ready-kept (kept-less room after (omega arith) (omega (arith, t .fresh)) k) e (t .ready);
-        framed = framed-kept {t = x .base + x .count} (omega arith) k (t .framed);
+        ready = ready-kept (keeps-less room after (omega arith) (omega (arith, t .fresh)) k) e (t .ready);
+        framed = framed-kept {t = x .base + x .count} (omega arith) (k .words) (t .framed);
         scoped = t .scoped;
         fresh = t .fresh;
       }
 
   -- with a candidate for its variable
-  pub push-kept : (v : ℕ) → Kept (w .supposed) (x .base + x .count) room (set room (plus (x .base) (x .count)) v)
+  pub push-kept : (v : ℕ) → Keeps (Stock f ds us (w .supposed) c) (w .supposed) (x .base + x .count) room (set room (plus (x .base) (x .count)) v)
   push-kept v =
-      subst (λ (i : ℕ). Kept (w .supposed) (x .base + x .count) room (set room i v)) {x = x .base + x .count} {y = plus (x .base) (x .count)} (omega (arith, t .fresh, t .ready .enough .bindings, t .framed .shallow))
-      (push-keeps room (w .supposed) (x .base + x .count) v (omega (arith, t .ready .enough .supposed)) (omega (arith, t .framed .above)))
+      subst (λ (i : ℕ). Keeps (Stock f ds us (w .supposed) c) (w .supposed) (x .base + x .count) room (set room i v)) {x = x .base + x .count} {y = plus (x .base) (x .count)} (omega (arith, t .fresh, t .ready .enough .bindings, t .framed .shallow))
+      (keeps-push room (w .supposed) (x .base + x .count) v (omega (arith, t .ready .enough .supposed)) (omega (arith, t .framed .above)) (omega (arith, t .fresh, t .ready .low, t .framed .shallow, clause-nests d)))
 
   pub taken-with : (n i : ℕ) (d′ : Clause Plain) → Stands (bytesAt f x) (x .at + n) (clauseSexp d′) → nesting (clauseSexp d′) + 1 ≤ nesting (clauseSexp d) → clauseOk (suc (length bs′)) d′ ≡ true → i < length us → Taken f (set room (plus (x .base) (x .count)) (held (bindingWord (Candidate i)))) ds us w (deeper x n) left o c bs a d′ (Candidate i ∷ bs′)
   taken-with n i d′ h l ok b =
@@ -87,7 +93,7 @@ module _ {f : Files} {room : List ℕ} {ds : List (Clause Plain)} {us : List Ter
       let more : plus (x .count) 1 ≡ suc (x .count) = omega (arith, t .framed .shallow) in
       let k = push-kept v in
       record {
-        ready = ready-kept (kept-less room (set room (plus (x .base) (x .count)) v) (omega arith) (omega (arith, t .fresh)) k) (length-set room (plus (x .base) (x .count)) v) (t .ready);
+        ready = ready-kept (keeps-less room (set room (plus (x .base) (x .count)) v) (omega arith) (omega (arith, t .fresh)) k) (length-set room (plus (x .base) (x .count)) v) (t .ready);
         framed =
             record {
               stands = subst (λ (j : ℕ). Stands (bytesAt f x) j (clauseSexp d′)) (sym (plus-inside (bytesAt f x) (x .at) n (file-small (t .ready .place .booked) (x .source)) h)) h;
@@ -130,12 +136,14 @@ ready-body {f} {room} {ds} {us} {w} {x} t n g h l ok =
             opened = omega (arith, t .ready .enough .opened);
           };
       long = t .ready .long;
+      low = omega (arith, t .ready .low, t .fresh, t .framed .shallow);
+      stock = t .ready .stock;
     }
 
 -- what is claimed of a clause
 abbrev Claim : Files → List ℕ → List ℕ → List (Clause Plain) → List Term → Where → Spot → ℕ → ℕ → List Plain → Hand Plain → Bindings → Atom → Bindings → Bool → Clause Plain → Type 0
 Claim f room after ds us w x nest left o c bs a bs′ r d =
-    nesting (clauseSexp d) ≤ nest → Taken f room ds us w x left o c bs a d bs′ → Answers (w .supposed) (x .base + x .count) room after (passes us left o c bs a d bs′) r
+    nesting (clauseSexp d) ≤ nest → Taken f room ds us w x left o c bs a d bs′ → Answers (Stock f ds us (w .supposed) c) (w .supposed) (x .base + x .count) room after (passes us left o c bs a d bs′) r
 
 -- a call's promise at the spot that the code made
 pub passing-at : {f : Files} {room after : List ℕ} {w : Where} {x y : Spot} {nest left : ℕ} {r : Bool} → x ≡ y → Passing f room after w x nest left r → Passing f room after w y nest left r
@@ -150,7 +158,7 @@ AllLeft f room w x nest left now i =
     (ds : List (Clause Plain)) (us : List Term) (o : List Plain) (c : Hand Plain) (bs : Bindings) (a : Atom) (q : Plain) (d : Clause Plain) (bs′ : Bindings) →
     nesting (clauseSexp (Clause.allD q d)) ≤ suc nest →
     Taken f room ds us w x left o c bs a (Clause.allD q d) bs′ →
-    (Kept (w .supposed) (x .base + x .count) room now) × (passes us left o c bs a (Clause.allD q d) bs′ ≡ spec.candidatesFrom (listed us) o q (passesWith us left o c bs a d bs′) i)
+    Keeps (Stock f ds us (w .supposed) c) (w .supposed) (x .base + x .count) room now × (passes us left o c bs a (Clause.allD q d) bs′ ≡ spec.candidatesFrom (listed us) o q (passesWith us left o c bs a d bs′) i)
 
 module _ {f : Files} {room : List ℕ} {w : Where} {x : Spot} {left : ℕ} where
   -- a clause is a list
@@ -165,6 +173,13 @@ module _ {f : Files} {room : List ℕ} {w : Where} {x : Spot} {left : ℕ} where
   -- no clause has any other word
   pub by-other : (nest : ℕ) (k : Word) → WordAt (drop (x .at) (bytesAt f x)) 1 k → R.Nothing ≡ rowOf (dueAfter K.Clause k) → Passing f room room w x nest left false
   by-other nest k q n ds us o c bs a d bs′ l t = absurd (clause-has-row d k (clause-says (bytesAt f x) (x .at) d k (t .framed .stands) q) n)
+
+  -- no head of the clause has the atom's predicate
+  pub passes-none : {s : Bool} (nest : ℕ) → HasHead f x (w .goal) 64 s → s ≡ false → Passing f room room w x nest left false
+  passes-none nest m n ds us o c bs a d bs′ l t =
+      let place = t .ready .place in
+      let h = m d a (omega (arith, t .framed .shallow)) (clause-there t) (record { stands = place .framed .stands; shallow = omega (arith, place .framed .shallow) }) in
+      record { kept = keeps-same room; answer = sym (headless (listed us) o bs a (λ g ds. spec.provable (listed us) left o c ds g) d bs′ (sym h ∙ n)) }
 
   -- two clauses
   pub and-lost : {q : After} (nest : ℕ) → PastAt (drop (x .at) (bytesAt f x)) 6 64 q → q ≡ A.Nothing → PassingAs W.And f room room w x nest left false
@@ -192,14 +207,14 @@ module _ {f : Files} {room : List ℕ} {w : Where} {x : Spot} {left : ℕ} where
       let m = passing-at i p ds us o c bs a y bs′ (omega arith) (taken-part t 6 y (first-part (octets "and") (heads .0) (t .framed .stands)) (omega arith) ok) in
       let t′ = taken-part t k y′ (second-found (octets "and") (heads .0) (t .framed .stands) b e) (omega arith) ok′ in
       let m′ = passing-at j p′ ds us o c bs a y′ bs′ (omega arith) (taken-kept t′ (m .kept) l) in
-      record { kept = kept-then room mid after (omega arith) (omega arith) (m .kept) (m′ .kept); answer = or-no (m .answer) z (m′ .answer) })
+      record { kept = keeps-then room mid after (omega arith) (omega arith) (m .kept) (m′ .kept); answer = or-no (m .answer) z (m′ .answer) })
 
   -- an `all`: candidate i
   pub with-barred : (i nest : ℕ) (u : Bool) → u ≡ (ltb i (getD room candidatesWord 0) && leb (getD room (highestWord i) 0) (w .parameters)) → u ≡ false → PassingWith f room room w x i nest left false
   unfolding spec.candidateDoes
   with-barred i nest u e n ds us o c bs a q d bs′ l t =
       let m = t .ready .place in
-      record { kept = λ j k. refl; answer = and-no (passesWith us left o c bs a d bs′ i) (e ∙ may-be room (f .terms) us o q i (w .parameters) (m .booked .candidates) (m .openly)) n }
+      record { kept = keeps-same room; answer = and-no (passesWith us left o c bs a d bs′ i) (e ∙ may-be room (f .terms) us o q i (w .parameters) (m .booked .candidates) (m .openly)) n }
 
   pub with-goes : {after : List ℕ} {y : Spot} {s : Bool} (i nest : ℕ) (u : Bool) → u ≡ (ltb i (getD room candidatesWord 0) && leb (getD room (highestWord i) 0) (w .parameters)) → u ≡ true → y ≡ deeper x 6 → Passing f (set room (plus (x .base) (x .count)) (held (bindingWord (Candidate i)))) after w y nest left s → PassingWith f room after w x i nest left s
   unfolding spec.candidateDoes
@@ -209,14 +224,14 @@ module _ {f : Files} {room : List ℕ} {w : Where} {x : Spot} {left : ℕ} where
       let t′ = taken-with t 6 i d (first-part (octets "all") (heads .1 .1 .1 .0) (t .framed .stands)) (omega arith) (t .scoped) (allowed-below us o q i (sym m ∙ n)) in
       let y = passing-at j p ds us o c bs a d (Candidate i ∷ bs′) (omega arith) t′ in
       record {
-        kept = kept-then room (set room (plus (x .base) (x .count)) v) after (omega arith) (omega (arith, t .framed .shallow)) (push-kept t v) (y .kept);
+        kept = keeps-then room (set room (plus (x .base) (x .count)) v) after (omega arith) (omega (arith, t .framed .shallow)) (push-kept t v) (y .kept);
         answer = and-yes m n (y .answer);
       }
 
   -- the candidates one after the other
   pub all-start : (nest : ℕ) → AllLeft f room w x nest left room 0
   unfolding spec.through
-  all-start nest ds us o c bs a q d bs′ l t = (λ i k. refl, refl)
+  all-start nest ds us o c bs a q d bs′ l t = (keeps-same room, refl)
 
   pub all-miss : {now after : List ℕ} {s : Bool} (nest i n : ℕ) → i < n → n ≡ getD room candidatesWord 0 → AllLeft f room w x nest left now i → length now ≡ length room → PassingWith f now after w x i nest left s → s ≡ false → AllLeft f room w x nest left after (i + 1)
   unfolding spec.candidatesFrom
@@ -225,7 +240,7 @@ module _ {f : Files} {room : List ℕ} {w : Where} {x : Spot} {left : ℕ} where
       let m = p ds us o c bs a q d bs′ lo (taken-kept t kept k) in
       let b : i < length us = omega (arith, t .ready .place .booked .candidates .counted) in
       let try : ℕ → Bool = spec.candidateDoes (listed us) o q (passesWith us left o c bs a d bs′) in
-      (kept-then room now after (omega arith) (omega arith) kept (m .kept), so ∙ (any-here try i (length us) b ∙ sym (or-no (m .answer) z refl)))
+      (keeps-then room now after (omega arith) (omega arith) kept (m .kept), so ∙ (any-here try i (length us) b ∙ sym (or-no (m .answer) z refl)))
 
   pub all-hit : {now after : List ℕ} {s : Bool} (nest i n : ℕ) → i < n → n ≡ getD room candidatesWord 0 → AllLeft f room w x nest left now i → length now ≡ length room → PassingWith f now after w x i nest left s → s ≡ true → PassingAs W.All f room after w x nest left true
   unfolding spec.candidatesFrom
@@ -237,7 +252,7 @@ module _ {f : Files} {room : List ℕ} {w : Where} {x : Spot} {left : ℕ} where
       let m = p ds us o c bs a q y bs′ lo (taken-kept t kept k) in
       let b : i < length us = omega (arith, t .ready .place .booked .candidates .counted) in
       let try : ℕ → Bool = spec.candidateDoes (listed us) o q (passesWith us left o c bs a y bs′) in
-      record { kept = kept-then room now after (omega arith) (omega arith) kept (m .kept); answer = or-yes (spec.anyFrom try (i + 1) (length us - (i + 1))) (m .answer) z ∙ sym (so ∙ any-here try i (length us) b) })
+      record { kept = keeps-then room now after (omega arith) (omega arith) kept (m .kept); answer = or-yes (spec.anyFrom try (i + 1) (length us - (i + 1))) (m .answer) z ∙ sym (so ∙ any-here try i (length us) b) })
 
   pub all-done : {now : List ℕ} (nest i n : ℕ) → n ≤ i → n ≡ getD room candidatesWord 0 → AllLeft f room w x nest left now i → PassingAs W.All f room now w x nest left false
   unfolding spec.candidatesFrom
@@ -256,7 +271,7 @@ module _ {f : Files} {room after : List ℕ} {w : Where} {left : ℕ} (k : ℕ) 
   unfolding spec.clauseDoes
   by-none p e ds us o c bs a r =
       let (n, same) = opened-none r k (subst (Opened room after k (w .supposed) (w .top)) e p) in
-      record { kept = λ i l. ap (λ (z : List ℕ). getD z i 0) same; answer = ap (λ (m : Option (AtHand Plain)). maybe m false λ d. passes us left o c bs a (d .clause) (d .bindings)) (sym n) }
+      record { kept = subst (Keeps (Stock f ds us (w .supposed) c) (w .supposed) (w .top) room) (sym same) (keeps-same room); answer = ap (λ (m : Option (AtHand Plain)). maybe m false λ d. passes us left o c bs a (d .clause) (d .bindings)) (sym n) }
 
   pub by-clause : {last : List ℕ} {q : Chosen} {y : Spot} {s : Bool} → Opened room after k (w .supposed) (w .top) q → q ≡ C.Clause y → Passing f after last w y 64 left s → ProvingBy f room last w k left s
   unfolding spec.clauseDoes
@@ -264,21 +279,6 @@ module _ {f : Files} {room after : List ℕ} {w : Where} {left : ℕ} (k : ℕ) 
       let z = opened-clause r k (subst (Opened room after k (w .supposed) (w .top)) e p) in
       let b = m ds us o c bs a (z .clause .clause) (z .clause .bindings) (omega (arith, z .taken .framed .shallow)) (z .taken) in
       record {
-        kept = kept-then room after last (omega arith) (omega (arith, z .taken .fresh)) (z .kept) (b .kept);
+        kept = keeps-then room after last (omega arith) (omega (arith, z .taken .fresh)) (z .kept) (b .kept);
         answer = b .answer ∙ ap (λ (n : Option (AtHand Plain)). maybe n false λ d. passes us left o c bs a (d .clause) (d .bindings)) (sym (z .there));
-      }
-
-  -- no head of the clause has the atom's predicate
-  pub by-headless : {q : Chosen} {y : Spot} {s : Bool} → Opened room after k (w .supposed) (w .top) q → q ≡ C.Clause y → HasHead f y (w .goal) 64 s → s ≡ false → ProvingBy f room after w k left false
-  unfolding spec.clauseDoes
-  by-headless {y = y} p e m n ds us o c bs a r =
-      let z = opened-clause r k (subst (Opened room after k (w .supposed) (w .top)) e p) in
-      let t = z .taken in
-      let place = t .ready .place in
-      let h = m (z .clause .clause) a (omega (arith, t .framed .shallow)) (record { stands = t .framed .stands; shallow = omega (arith, t .framed .shallow); small = file-small (place .booked) (y .source) }) (record { stands = place .framed .stands; shallow = omega (arith, place .framed .shallow) }) in
-      record {
-        kept = z .kept;
-        answer =
-            sym (headless (listed us) o bs a (λ g ds. spec.provable (listed us) left o c ds g) (z .clause .clause) (z .clause .bindings) (sym h ∙ n))
-            ∙ ap (λ (n : Option (AtHand Plain)). maybe n false λ d. passes us left o c bs a (d .clause) (d .bindings)) (sym (z .there));
       }

@@ -17,19 +17,22 @@ use Rattle.packet.specs.Barred.{atomOk, goalOk}
 use Rattle.room.specs.Layout.{words, levels, stack}
 use Rattle.room.specs.Frame.{bindingWord, bindingOf, held, bindingsIn}
 use Rattle.room.specs.Spot.{bindingsAt}
-use Rattle.room.specs.Term.{AtomAt}
+use Rattle.equal.specs.Term.{AtomAt}
 use Rattle.room.specs.Where.{Files, Live, Kept, Framed, plus}
 use Rattle.room.specs.declared.Spot.{Spot}
 use Rattle.room.specs.declared.Where.{Where}
-use Rattle.room.proofs.AtomLaws.{atom-at}
+use Rattle.equal.proofs.AtomLaws.{atom-at}
 use Rattle.room.proofs.FrameLaws.{frame-pushed, frame-length, frames-alike}
-use Rattle.room.proofs.WhereLaws.{kept-less}
 use Rattle.room.proofs.MoveLaws.{hand-higher}
 use Rattle.mentions.specs.Open.{unset}
+use Rattle.keys.specs.Keys.{keyWord}
+use Rattle.provable.specs.Stock.{Stock, Keeps}
 use Rattle.provable.specs.Proving.{Ready}
 use Rattle.provable.specs.Parts.{variableWord, bodyPlace}
-use Rattle.provable.specs.Filling.{unsets, setTo, HeadIn, BodyIn, PartsIn, Filling, Unsets, Starting, floor}
+use Rattle.provable.specs.Frames.{unsets, setTo}
+use Rattle.provable.specs.Filling.{HeadIn, BodyIn, PartsIn, Filling, Unsets, Starting, floor}
 use Rattle.provable.specs.declared.plain.Parts.{Parts}
+use Rattle.provable.proofs.StockLaws.{keeps-less, stock-low, stock-set}
 use Rattle.provable.proofs.ReadyLaws.{ready-kept}
 use Rattle.provable.proofs.CompletesLaws.{set-long}
 
@@ -90,6 +93,7 @@ unset-start room x =
       long = refl;
       holds = λ l h. ap (bindingsIn room (x .base)) {x = x .count} {y = x .count - 0} (omega arith);
       kept = λ l h i k. refl;
+      above = λ l h i k. refl;
     }
 
 pub unset-more : (room now after : List ℕ) (x : Spot) (v y : ℕ) → length room ≤ 18446744073709551615 → y ≡ variableWord x v → after ≡ set now y (held (bindingWord unset)) → Unsets room now x v → Unsets room after x (v + 1)
@@ -108,6 +112,9 @@ unset-more room now after x v y small i e u =
       kept = λ l h k q.
           let z = word-in x v (omega arith) (omega arith) in
           others-stay now x v unset k (λ s. omega arith) ∙ u .kept (omega arith) h k (omega arith);
+      above = λ l h k q.
+          let z = word-in x v (omega arith) (omega arith) in
+          others-stay now x v unset k (λ s. omega arith) ∙ u .above (omega arith) h k q;
     })
 
 -- the head of the clause, with or without a body
@@ -149,19 +156,19 @@ parts-over f room after p e fr fr′ holds long = go e
     go (Clause.andD c d) h = absurd h
 
 module _ {f : Files} {room : List ℕ} {ds : List (Clause Plain)} {us : List Term} {w : Where} {p : Parts} {left : ℕ} {o : List Plain} {c : Hand Plain} {bs : Bindings} {a : Atom} {e : Clause Plain} {fr : Bindings} (t : Filling f room ds us w p left o c bs a e fr) where
-  -- the frame, and how far it reaches
+  -- the frame, and how far it reaches: not to what the search keeps
   pub frame-is : bindingsAt room (p .head) ≡ fr
   frame-is = head-in f room p e fr (t .parts) .framed .holds
 
   pub frame-many : length fr ≡ p .head .count
   frame-many = ap length (sym frame-is) ∙ frame-length room (p .head .base) (p .head .count)
 
-  pub frame-ends : (p .head .count ≤ levels) × (p .head .base + p .head .count ≤ words)
+  pub frame-ends : (p .head .count ≤ levels) × (p .head .base + p .head .count ≤ words) × (p .head .base + p .head .count ≤ keyWord 0)
   frame-ends =
       let h = head-in f room p e fr (t .parts) .framed .shallow in
       let b = t .ready .enough .bindings in
       let q = t .fresh in
-      (omega arith, omega arith)
+      (omega arith, omega arith, omega (arith, t .ready .low))
 
   -- the atoms, as the comparison of atoms asks for them
   pub head-at : AtomAt (f .rules) (f .goal) (f .terms) (p .head) (headOf e)
@@ -171,23 +178,32 @@ module _ {f : Files} {room : List ℕ} {ds : List (Clause Plain)} {us : List Ter
   atom-there = atom-at a (t .ready .place .framed) (t .ready .place .scoped)
 
   -- after a call that keeps what is below the frame's end
-  pub filling-kept : {after : List ℕ} → Kept (w .supposed) (p .head .base + p .head .count) room after → length after ≡ length room → Filling f after ds us w p left o c bs a e fr
+  pub filling-kept : {after : List ℕ} → Keeps (Stock f ds us (w .supposed) c) (w .supposed) (p .head .base + p .head .count) room after → length after ≡ length room → Filling f after ds us w p left o c bs a e fr
   filling-kept {after} k l =
       let h = head-in f room p e fr (t .parts) .framed in
       record {
-        ready = ready-kept (kept-less room after (omega arith) (omega (arith, t .fresh)) k) l (t .ready);
-        parts = parts-over f room after p e fr fr (frames-alike after room (p .head .base) (p .head .base) (p .head .count) (λ i q. k (p .head .base + i) (Live.high (omega (arith, h .above)) (omega arith))) ∙ frame-is) refl (t .parts);
+        ready = ready-kept (keeps-less room after (omega arith) (omega (arith, t .fresh)) k) l (t .ready);
+        parts = parts-over f room after p e fr fr (frames-alike after room (p .head .base) (p .head .base) (p .head .count) (λ i q. k .words (p .head .base + i) (Live.high (omega (arith, h .above)) (omega arith))) ∙ frame-is) refl (t .parts);
         own = t .own;
         fresh = t .fresh;
       }
 
   -- with another binding for one of the clause's own variables
   module _ (v : ℕ) (d : Binding) (l : v < p .own) where
-    pub write-keeps : Kept (w .supposed) (floor p) room (set room (variableWord (p .head) v) (held (bindingWord d)))
+    -- its word is none of those that the search keeps
+    pub word-free : {now : List ℕ} → Stock f ds us (w .supposed) c now → Stock f ds us (w .supposed) c (set now (variableWord (p .head) v) (held (bindingWord d)))
+    word-free =
+        let n = frame-ends in
+        stock-set (variableWord (p .head) v) (held (bindingWord d)) (omega (arith, n .2, t .own, word-in (p .head) v (omega (arith, t .own)) (omega (arith, n .1))))
+
+    pub write-keeps : Keeps (Stock f ds us (w .supposed) c) (w .supposed) (floor p) room (set room (variableWord (p .head) v) (held (bindingWord d)))
     write-keeps =
         let n = frame-ends in
         let h = head-in f room p e fr (t .parts) .framed in
-        below-stays room (p .head) (w .supposed) (p .own) v d l (t .own) (omega (arith, n .1)) (omega (arith, t .ready .enough .supposed)) (h .above)
+        record {
+          words = below-stays room (p .head) (w .supposed) (p .own) v d l (t .own) (omega (arith, n .1)) (omega (arith, t .ready .enough .supposed)) (h .above);
+          stock = word-free;
+        }
 
     pub filling-set : bindingWord d ≤ 4294967295 → Filling f (set room (variableWord (p .head) v) (held (bindingWord d))) ds us w p left o c bs a e (setTo v d fr)
     filling-set small =
@@ -195,7 +211,7 @@ module _ {f : Files} {room : List ℕ} {ds : List (Clause Plain)} {us : List Ter
         let after = set room (variableWord (p .head) v) (held (bindingWord d)) in
         let holds = frame-set room (p .head) v d (omega (arith, t .own)) (omega (arith, n .1, t .ready .long)) (omega (arith, n .1)) small ∙ ap (setTo v d) frame-is in
         record {
-          ready = ready-kept (kept-less room after (omega arith) (omega (arith, t .fresh)) write-keeps) (length-set room (variableWord (p .head) v) (held (bindingWord d))) (t .ready);
+          ready = ready-kept (keeps-less room after (omega arith) (omega (arith, t .fresh)) write-keeps) (length-set room (variableWord (p .head) v) (held (bindingWord d))) (t .ready);
           parts = parts-over f room after p e fr (setTo v d fr) holds (set-long v d fr) (t .parts);
           own = t .own;
           fresh = t .fresh;
@@ -225,6 +241,8 @@ filling-body {p = p} t =
             opened = omega (arith, t .ready .enough .opened);
           };
       long = t .ready .long;
+      low = omega (arith, t .ready .low, t .fresh, n .0, h .base, h .count);
+      stock = t .ready .stock;
     }
 
 -- the whole clause, once its own variables are unset
@@ -234,15 +252,22 @@ module _ {f : Files} {room after : List ℕ} {ds : List (Clause Plain)} {us : Li
       let r = t .ready in
       (omega (arith, t .fresh, t .few, r .enough .bindings, r .long), omega (arith, t .fresh, r .place .tight, r .place .framed .above))
 
-  pub start-keeps : Kept (w .supposed) (floor p) room after
-  start-keeps i (Live.low k) = let n = start-ends in u .kept (t .own) (n .0) i (omega (arith, n .1, t .ready .enough .supposed))
-  start-keeps i (Live.high k k′) = u .kept (t .own) (start-ends .0) i k′
+  start-words : Kept (w .supposed) (floor p) room after
+  start-words i (Live.low k) = let n = start-ends in u .kept (t .own) (n .0) i (omega (arith, n .1, t .ready .enough .supposed))
+  start-words i (Live.high k k′) = u .kept (t .own) (start-ends .0) i k′
+
+  pub start-keeps : Keeps (Stock f ds us (w .supposed) c) (w .supposed) (floor p) room after
+  start-keeps =
+      record {
+        words = start-words;
+        stock = stock-low (u .long) (λ i k. u .above (t .own) (start-ends .0) i (omega (arith, t .fresh, t .few, t .ready .low)));
+      }
 
   pub start-filling : Filling f after ds us w p left o c bs a e (unsets (p .own) bs′)
   start-filling =
       let holds = u .holds (t .own) (start-ends .0) ∙ ap (unsets (p .own)) (t .holds) in
       record {
-        ready = ready-kept (kept-less room after (omega arith) (omega (arith, t .fresh)) start-keeps) (u .long) (t .ready);
+        ready = ready-kept (keeps-less room after (omega arith) (omega (arith, t .fresh)) start-keeps) (u .long) (t .ready);
         parts = t .parts after holds;
         own = t .own;
         fresh = t .fresh;

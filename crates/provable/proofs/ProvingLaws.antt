@@ -10,7 +10,7 @@ use lib.ListN.{length, getD, drop, set}
 use Rattle.basics.specs.Choice.{both-true}
 use Rattle.basics.specs.Text.{octets}
 use Rattle.harrop.specs.declared.Binding.the-variants.{Candidate, Parameter}
-use Rattle.harrop.specs.Formula.{Term, Atom, Goal, Clause}
+use Rattle.harrop.specs.Formula.{Term, Goal, Clause}
 use Rattle.harrop.specs.Bindings.{Bindings}
 use Rattle.harrop.specs.Place.{Hand, Plain, listed}
 use Rattle.sexp.specs.declared.skip.After.{After}
@@ -18,25 +18,26 @@ use Rattle.sexp.specs.declared.skip.After.the-variants as A
 use Rattle.sexp.specs.Past.{PastAt}
 use Rattle.packet.specs.declared.Word.{Word}
 use Rattle.packet.specs.declared.Word.the-variants as W
-use Rattle.packet.specs.WordAt.{WordAt}
+use Rattle.reader.specs.WordAt.{WordAt}
 use Rattle.packet.specs.declared.Kind.the-variants as K
-use Rattle.packet.specs.declared.table.Row.the-variants as R
-use Rattle.packet.specs.Rows.{rowOf}
+use Rattle.rows.specs.declared.table.Row.the-variants as R
+use Rattle.rows.specs.Rows.{rowOf}
 use Rattle.packet.specs.Table.{dueAfter}
 use Rattle.packet.specs.Barred.{goalOk, clauseOk}
-use Rattle.room.specs.Layout.{candidatesWord, highestWord, rulesWord}
+use Rattle.room.specs.Layout.{candidatesWord, highestWord}
 use Rattle.room.specs.Frame.{bindingWord, held}
 use Rattle.room.specs.Spot.{fileOf, supposing}
-use Rattle.room.specs.Where.{Files, Kept, plus, further, within, bound, supposes}
+use Rattle.room.specs.Where.{Files, plus, further, within, bound, supposes}
 use Rattle.room.specs.declared.Spot.{Spot}
 use Rattle.room.specs.declared.Where.{Where}
-use Rattle.room.proofs.WhereLaws.{kept-then, push-keeps}
-use Rattle.room.proofs.MoveLaws.{suppose-keeps}
+use Rattle.table.specs.Recall.{TableOnly, Forgets}
 use Rattle.provable.specs.Provable as spec
-use Rattle.provable.specs.Proving.{Ready, Answers, Proving, ProvingAs, ProvingWith, ProvingBy, provesWith}
+use Rattle.provable.specs.Stock.{Stock, Keeps}
+use Rattle.provable.specs.Proving.{Ready, Answers, Proving, ProvingAs, ProvingWith, provesWith}
 use Rattle.provable.proofs.WalkLaws.{any-here, any-none}
 use Rattle.heads.proofs.HeadLaws.{goal-says, goal-is, goal-has-row, heads, first-part, second-found, first-found}
-use Rattle.provable.proofs.ReadyLaws.{may-be, allowed-below, ready-kept, ready-part, ready-with, ready-all, ready-under}
+use Rattle.provable.proofs.StockLaws.{keeps-same, keeps-then, keeps-push}
+use Rattle.provable.proofs.ReadyLaws.{may-be, allowed-below, ready-kept, ready-part, ready-with, ready-all, ready-under, under-keeps}
 
 -- the file of a spot
 abbrev pub bytesAt : Files → Spot → List ℕ
@@ -67,27 +68,21 @@ pub both-of : (a b : Bool) → a && b ≡ true → (a ≡ true) × (b ≡ true)
 both-of a b e = both-true a b e
 
 -- what is claimed of a goal
-abbrev Claim : Files → List ℕ → List ℕ → List (Clause Plain) → List Term → Where → ℕ → List Plain → Hand Plain → Bindings → Bool → Goal Plain → Type 0
-Claim f room after ds us w h o c bs r g = Ready f room ds us w h o c bs g → Answers (w .supposed) (w .top) room after (spec.provable (listed us) h o c bs g) r
+abbrev pub Claim : Files → List ℕ → List ℕ → List (Clause Plain) → List Term → Where → ℕ → List Plain → Hand Plain → Bindings → Bool → Goal Plain → Type 0
+Claim f room after ds us w h o c bs r g = Ready f room ds us w h o c bs g → Answers (Stock f ds us (w .supposed) c) (w .supposed) (w .top) room after (spec.provable (listed us) h o c bs g) r
 
--- where the loop over candidates, or over clauses, is: what the place relies on is kept, and those from i on decide
+-- where the loop over candidates is: what the place relies on is kept, and those from i on decide
 abbrev pub SomeLeft : Files → List ℕ → Where → ℕ → List ℕ → ℕ → Type 0
 SomeLeft f room w left now i =
     (ds : List (Clause Plain)) (us : List Term) (o : List Plain) (c : Hand Plain) (bs : Bindings) (q : Plain) (g : Goal Plain) →
     Ready f room ds us w (suc left) o c bs (Goal.some q g) →
-    (Kept (w .supposed) (w .top) room now) × (spec.provable (listed us) (suc left) o c bs (Goal.some q g) ≡ spec.candidatesFrom (listed us) o q (provesWith us left o c bs g) i)
-
-abbrev pub AtomLeft : Files → List ℕ → Where → ℕ → List ℕ → ℕ → Type 0
-AtomLeft f room w left now k =
-    (ds : List (Clause Plain)) (us : List Term) (o : List Plain) (c : Hand Plain) (bs : Bindings) (a : Atom) →
-    Ready f room ds us w (suc left) o c bs (Goal.atom a) →
-    (Kept (w .supposed) (w .top) room now) × (spec.provable (listed us) (suc left) o c bs (Goal.atom a) ≡ spec.clausesFrom (listed us) o c (spec.serves (listed us) left o c bs a) k)
+    Keeps (Stock f ds us (w .supposed) c) (w .supposed) (w .top) room now × (spec.provable (listed us) (suc left) o c bs (Goal.some q g) ≡ spec.candidatesFrom (listed us) o q (provesWith us left o c bs g) i)
 
 module _ {f : Files} {room : List ℕ} {w : Where} where
   -- no height, no proof
   pub no-height : (h : ℕ) → h ≡ 0 → Proving f room room w h false
   unfolding spec.provable
-  no-height h e ds us o c bs g r = record { kept = λ i l. refl; answer = ap (λ (n : ℕ). spec.provable (listed us) n o c bs g) {x = 0} {y = h} (sym e) }
+  no-height h e ds us o c bs g r = record { kept = keeps-same room; answer = ap (λ (n : ℕ). spec.provable (listed us) n o c bs g) {x = 0} {y = h} (sym e) }
 
   -- a goal by its word
   pub by-word : {after : List ℕ} {r : Bool} (h : ℕ) (word k : Word) → (h ≡ 0 → ⊥) → WordAt (drop (w .goal .at) (bytesAt f (w .goal))) 1 k → k ≡ word → ProvingAs word f room after w (h - 1) r → Proving f room after w h r
@@ -99,7 +94,7 @@ module _ {f : Files} {room : List ℕ} {w : Where} where
   pub top-proved : (left : ℕ) → ProvingAs W.Top f room room w left true
   unfolding spec.provable
   top-proved left ds us o c bs g h r =
-      record { kept = λ i l. refl; answer = ap (spec.provable (listed us) (suc left) o c bs) {x = Goal.top} {y = g} (sym (goal-is g h)) }
+      record { kept = keeps-same room; answer = ap (spec.provable (listed us) (suc left) o c bs) {x = Goal.top} {y = g} (sym (goal-is g h)) }
 
   -- no goal has any other word
   pub by-other : (h : ℕ) (k : Word) → WordAt (drop (w .goal .at) (bytesAt f (w .goal))) 1 k → R.Nothing ≡ rowOf (dueAfter K.Goal k) → Proving f room room w h false
@@ -131,7 +126,7 @@ module _ {f : Files} {room : List ℕ} {w : Where} where
         let (ok, ok′) = both-of (goalOk (length bs) x) (goalOk (length bs) y) (r .place .scoped) in
         let a = proving-at i p ds us o c bs x (ready-part r 6 x (first-part (octets "and") (heads .0) (r .place .framed .stands)) (omega arith) ok) in
         let b = proving-at j p′ ds us o c bs y (ready-kept (a .kept) l (ready-part r k y (second-found (octets "and") (heads .0) (r .place .framed .stands) u e) (omega arith) ok′)) in
-        record { kept = kept-then room mid after (omega arith) (omega arith) (a .kept) (b .kept); answer = and-yes (a .answer) z (b .answer) })
+        record { kept = keeps-then room mid after (omega arith) (omega arith) (a .kept) (b .kept); answer = and-yes (a .answer) z (b .answer) })
 
     pub either-lost : {q : After} → PastAt (drop (w .goal .at) (bytesAt f (w .goal))) 5 64 q → q ≡ A.Nothing → ProvingAs W.Or f room room w left false
     either-lost p e ds us o c bs g h =
@@ -157,7 +152,7 @@ module _ {f : Files} {room : List ℕ} {w : Where} where
         let (ok, ok′) = both-of (goalOk (length bs) x) (goalOk (length bs) y) (r .place .scoped) in
         let a = proving-at i p ds us o c bs x (ready-part r 5 x (first-part (octets "or") (heads .1 .0) (r .place .framed .stands)) (omega arith) ok) in
         let b = proving-at j p′ ds us o c bs y (ready-kept (a .kept) l (ready-part r k y (second-found (octets "or") (heads .1 .0) (r .place .framed .stands) u e) (omega arith) ok′)) in
-        record { kept = kept-then room mid after (omega arith) (omega arith) (a .kept) (b .kept); answer = or-no (a .answer) z (b .answer) })
+        record { kept = keeps-then room mid after (omega arith) (omega arith) (a .kept) (b .kept); answer = or-no (a .answer) z (b .answer) })
 
     -- an `all`, with one parameter more
     pub all-full : 64 ≤ w .parameters → ProvingAs W.All f room room w left false
@@ -172,7 +167,7 @@ module _ {f : Files} {room : List ℕ} {w : Where} where
         let a = proving-at i k ds us (q ∷ o) c (Parameter p ∷ bs) x (ready-all r 6 p q x e (first-part (octets "all") (heads .1 .1 .1 .0) (r .place .framed .stands)) (omega arith) (r .place .scoped)) in
         let same : p ≡ suc (length o) = omega (arith, r .place .openly) in
         record {
-          kept = kept-then room (set room (w .top) (held (bindingWord (Parameter p)))) after (omega arith) (omega (arith, r .enough .bindings)) (push-keeps room (w .supposed) (w .top) (held (bindingWord (Parameter p))) (omega (arith, r .enough .supposed)) (omega (arith, r .place .framed .above, r .place .tight))) (a .kept);
+          kept = keeps-then room (set room (w .top) (held (bindingWord (Parameter p)))) after (omega arith) (omega (arith, r .enough .bindings)) (keeps-push room (w .supposed) (w .top) (held (bindingWord (Parameter p))) (omega (arith, r .enough .supposed)) (omega (arith, r .place .framed .above, r .place .tight)) (omega (arith, r .low))) (a .kept);
           answer = a .answer ∙ ap (λ (m : ℕ). spec.provable (listed us) left (q ∷ o) c (Parameter m ∷ bs) x) same;
         })
 
@@ -182,7 +177,7 @@ module _ {f : Files} {room : List ℕ} {w : Where} where
     under-flat z ds us o c bs g h =
         let (d, x, n) = goal-is g h in
         subst (Claim f room room ds us w (suc left) o c bs false) (sym n)
-        (λ r. record { kept = λ i l. refl; answer = ap (λ (m : ℕ). spec.provable (listed us) m o (c ++ (record { clause = d; bindings = bs } ∷ [])) bs x) {x = 0} {y = left} (sym z) })
+        (λ r. record { kept = keeps-same room; answer = ap (λ (m : ℕ). spec.provable (listed us) m o (c ++ (record { clause = d; bindings = bs } ∷ [])) bs x) {x = 0} {y = left} (sym z) })
 
     pub under-lost : {q : After} → PastAt (drop (w .goal .at) (bytesAt f (w .goal))) 6 64 q → q ≡ A.Nothing → ProvingAs W.Imp f room room w left false
     under-lost p e ds us o c bs g h =
@@ -190,26 +185,27 @@ module _ {f : Files} {room : List ℕ} {w : Where} where
         subst (Claim f room room ds us w (suc left) o c bs false) (sym n)
         (λ r. absurd (first-found (octets "imp") (heads .1 .1 .1 .1) (r .place .framed .stands) (omega (arith, r .place .framed .shallow)) p e))
 
-    pub under-goes : {after : List ℕ} {v : Where} {y : Spot} {q : After} {k : ℕ} {s : Bool} → (left ≡ 0 → ⊥) → y ≡ further (w .goal) 6 → v ≡ supposes w k → PastAt (drop (w .goal .at) (bytesAt f (w .goal))) 6 64 q → q ≡ A.Next k → Proving f (supposing room (w .supposed) y) after v left s → ProvingAs W.Imp f room after w left s
+    pub under-goes : {first mid after : List ℕ} {v : Where} {y : Spot} {q : After} {m k : ℕ} {s : Bool} → (left ≡ 0 → ⊥) → y ≡ further (w .goal) 6 → m ≡ plus (w .supposed) 1 → v ≡ supposes w k → PastAt (drop (w .goal .at) (bytesAt f (w .goal))) 6 64 q → q ≡ A.Next k
+        → first ≡ supposing room (w .supposed) y → TableOnly first mid → Forgets first mid m → Proving f mid after v left s → ProvingAs W.Imp f room after w left s
     unfolding spec.provable
-    under-goes {after} {v} {y} {k = k} {s = s} z j i u e p ds us o c bs g h =
+    under-goes {first} {mid} {after} {k = k} {s = s} z j e′ i u e f′ t t′ p ds us o c bs g h =
         let (d, x, n) = goal-is g h in
         subst (Claim f room after ds us w (suc left) o c bs s) (sym n)
         (λ r.
         let (okd, ok) = both-of (clauseOk (length bs) d) (goalOk (length bs) x) (r .place .scoped) in
         let st = r .place .framed .stands in
-        let p′ = proving-at i (subst (λ (b : Spot). Proving f (supposing room (w .supposed) b) after v left s) j p) in
-        let a = p′ ds us o (c ++ (record { clause = d; bindings = bs } ∷ [])) bs x (ready-under r 6 k d x z (first-part (octets "imp") (heads .1 .1 .1 .1) st) (omega arith) okd (second-found (octets "imp") (heads .1 .1 .1 .1) st u e) (omega arith) ok) in
-        record {
-          kept = kept-then room (supposing room (w .supposed) (further (w .goal) 6)) after (omega (arith, r .enough .supposed)) (omega arith) (suppose-keeps room (w .supposed) (w .top) (further (w .goal) 6) (omega (arith, r .enough .supposed))) (a .kept);
-          answer = a .answer;
-        })
+        let so = f′ ∙ ap (supposing room (w .supposed)) j in
+        let only = subst (λ (b : List ℕ). TableOnly b mid) so t in
+        let gone = subst (λ (b : List ℕ). Forgets b mid (plus (w .supposed) 1)) so (subst (Forgets first mid) e′ t′) in
+        let xs : Hand Plain = record { clause = d; bindings = bs } ∷ [] in
+        let a = proving-at i p ds us o (c ++ xs) bs x (ready-under r 6 k d x z (first-part (octets "imp") (heads .1 .1 .1 .1) st) (omega arith) okd (second-found (octets "imp") (heads .1 .1 .1 .1) st u e) (omega arith) ok only gone) in
+        record { kept = under-keeps r 6 xs z only gone (a .kept); answer = a .answer })
 
     -- a `some`: candidate i
     pub with-barred : (i : ℕ) (t : Bool) → t ≡ (ltb i (getD room candidatesWord 0) && leb (getD room (highestWord i) 0) (w .parameters)) → t ≡ false → ProvingWith f room room w i left false
     unfolding spec.candidateDoes
     with-barred i t e n ds us o c bs q g r =
-        record { kept = λ i l. refl; answer = and-no (provesWith us left o c bs g i) (e ∙ may-be room (f .terms) us o q i (w .parameters) (r .place .booked .candidates) (r .place .openly)) n }
+        record { kept = keeps-same room; answer = and-no (provesWith us left o c bs g i) (e ∙ may-be room (f .terms) us o q i (w .parameters) (r .place .booked .candidates) (r .place .openly)) n }
 
     pub with-goes : {after : List ℕ} {v : Where} {s : Bool} (i : ℕ) (t : Bool) → t ≡ (ltb i (getD room candidatesWord 0) && leb (getD room (highestWord i) 0) (w .parameters)) → t ≡ true → v ≡ bound w 7 (w .parameters) → Proving f (set room (w .top) (held (bindingWord (Candidate i)))) after v left s → ProvingWith f room after w i left s
     unfolding spec.candidateDoes
@@ -217,14 +213,14 @@ module _ {f : Files} {room : List ℕ} {w : Where} where
         let m = e ∙ may-be room (f .terms) us o q i (w .parameters) (r .place .booked .candidates) (r .place .openly) in
         let a = proving-at j p ds us o c (Candidate i ∷ bs) g (ready-with r 7 i g (first-part (octets "some") (heads .1 .1 .0) (r .place .framed .stands)) (omega arith) (r .place .scoped) (allowed-below us o q i (sym m ∙ n))) in
         record {
-          kept = kept-then room (set room (w .top) (held (bindingWord (Candidate i)))) after (omega arith) (omega (arith, r .enough .bindings)) (push-keeps room (w .supposed) (w .top) (held (bindingWord (Candidate i))) (omega (arith, r .enough .supposed)) (omega (arith, r .place .framed .above, r .place .tight))) (a .kept);
+          kept = keeps-then room (set room (w .top) (held (bindingWord (Candidate i)))) after (omega arith) (omega (arith, r .enough .bindings)) (keeps-push room (w .supposed) (w .top) (held (bindingWord (Candidate i))) (omega (arith, r .enough .supposed)) (omega (arith, r .place .framed .above, r .place .tight)) (omega (arith, r .low))) (a .kept);
           answer = and-yes m n (a .answer);
         }
 
     -- the candidates one after the other
     pub some-start : SomeLeft f room w left room 0
     unfolding spec.provable
-    some-start ds us o c bs q g r = (λ i l. refl, refl)
+    some-start ds us o c bs q g r = (keeps-same room, refl)
 
     pub some-miss : {now after : List ℕ} {s : Bool} (i n : ℕ) → i < n → n ≡ getD room candidatesWord 0 → SomeLeft f room w left now i → length now ≡ length room → ProvingWith f now after w i left s → s ≡ false → SomeLeft f room w left after (i + 1)
     unfolding spec.candidatesFrom
@@ -233,7 +229,7 @@ module _ {f : Files} {room : List ℕ} {w : Where} where
         let a = p ds us o c bs q g (ready-kept kept k r) in
         let b : i < length us = omega (arith, r .place .booked .candidates .counted) in
         let try : ℕ → Bool = spec.candidateDoes (listed us) o q (provesWith us left o c bs g) in
-        (kept-then room now after (omega arith) (omega arith) kept (a .kept), so ∙ (any-here try i (length us) b ∙ sym (or-no (a .answer) z refl)))
+        (keeps-then room now after (omega arith) (omega arith) kept (a .kept), so ∙ (any-here try i (length us) b ∙ sym (or-no (a .answer) z refl)))
 
     pub some-hit : {now after : List ℕ} {s : Bool} (i n : ℕ) → i < n → n ≡ getD room candidatesWord 0 → SomeLeft f room w left now i → length now ≡ length room → ProvingWith f now after w i left s → s ≡ true → ProvingAs W.Some f room after w left true
     unfolding spec.candidatesFrom
@@ -245,7 +241,7 @@ module _ {f : Files} {room : List ℕ} {w : Where} where
         let a = p ds us o c bs q x (ready-kept kept k r) in
         let b : i < length us = omega (arith, r .place .booked .candidates .counted) in
         let try : ℕ → Bool = spec.candidateDoes (listed us) o q (provesWith us left o c bs x) in
-        record { kept = kept-then room now after (omega arith) (omega arith) kept (a .kept); answer = or-yes (spec.anyFrom try (i + 1) (length us - (i + 1))) (a .answer) z ∙ sym (so ∙ any-here try i (length us) b) })
+        record { kept = keeps-then room now after (omega arith) (omega arith) kept (a .kept); answer = or-yes (spec.anyFrom try (i + 1) (length us - (i + 1))) (a .answer) z ∙ sym (so ∙ any-here try i (length us) b) })
 
     pub some-done : {now : List ℕ} (i n : ℕ) → n ≤ i → n ≡ getD room candidatesWord 0 → SomeLeft f room w left now i → ProvingAs W.Some f room now w left false
     unfolding spec.candidatesFrom
@@ -257,43 +253,3 @@ module _ {f : Files} {room : List ℕ} {w : Where} where
         let b : length us ≤ i = omega (arith, r .place .booked .candidates .counted) in
         let try : ℕ → Bool = spec.candidateDoes (listed us) o q (provesWith us left o c bs x) in
         record { kept = kept; answer = sym (so ∙ any-none try i (length us) b) })
-
-    -- the clauses one after the other
-    pub atom-start : AtomLeft f room w left room 0
-    unfolding spec.provable
-    atom-start ds us o c bs a r = (λ i l. refl, refl)
-
-    at-hand : {ds : List (Clause Plain)} {us : List Term} {o : List Plain} {c : Hand Plain} {bs : Bindings} {a : Atom} → Ready f room ds us w (suc left) o c bs (Goal.atom a) → plus (getD room rulesWord 0) (w .supposed) ≡ length c
-    at-hand r = omega (arith, r .place .booked .rules .counted, r .place .booked .rules .few, r .place .hand .number, r .enough .supposed)
-
-    pub atom-miss : {now after : List ℕ} {s : Bool} (k n : ℕ) → k < n → n ≡ plus (getD room rulesWord 0) (w .supposed) → AtomLeft f room w left now k → length now ≡ length room → ProvingBy f now after w k left s → s ≡ false → AtomLeft f room w left after (k + 1)
-    unfolding spec.clausesFrom
-    atom-miss {now} {after} k n l e inv m p z ds us o c bs a r =
-        let (kept, so) = inv ds us o c bs a r in
-        let y = p ds us o c bs a (ready-kept kept m r) in
-        let b : k < length c = omega (arith, at-hand r) in
-        let try : ℕ → Bool = spec.clauseDoes (listed us) o c (spec.serves (listed us) left o c bs a) in
-        (kept-then room now after (omega arith) (omega arith) kept (y .kept), so ∙ (any-here try k (length c) b ∙ sym (or-no (y .answer) z refl)))
-
-    pub atom-hit : {now after : List ℕ} {s : Bool} (k n : ℕ) → k < n → n ≡ plus (getD room rulesWord 0) (w .supposed) → AtomLeft f room w left now k → length now ≡ length room → ProvingBy f now after w k left s → s ≡ true → ProvingAs W.Atom f room after w left true
-    unfolding spec.clausesFrom
-    atom-hit {now} {after} k n l e inv m p z ds us o c bs g h =
-        let (a, u) = goal-is g h in
-        subst (Claim f room after ds us w (suc left) o c bs true) (sym u)
-        (λ r.
-        let (kept, so) = inv ds us o c bs a r in
-        let y = p ds us o c bs a (ready-kept kept m r) in
-        let b : k < length c = omega (arith, at-hand r) in
-        let try : ℕ → Bool = spec.clauseDoes (listed us) o c (spec.serves (listed us) left o c bs a) in
-        record { kept = kept-then room now after (omega arith) (omega arith) kept (y .kept); answer = or-yes (spec.anyFrom try (k + 1) (length c - (k + 1))) (y .answer) z ∙ sym (so ∙ any-here try k (length c) b) })
-
-    pub atom-done : {now : List ℕ} (k n : ℕ) → n ≤ k → n ≡ plus (getD room rulesWord 0) (w .supposed) → AtomLeft f room w left now k → ProvingAs W.Atom f room now w left false
-    unfolding spec.clausesFrom
-    atom-done {now} k n l e inv ds us o c bs g h =
-        let (a, u) = goal-is g h in
-        subst (Claim f room now ds us w (suc left) o c bs false) (sym u)
-        (λ r.
-        let (kept, so) = inv ds us o c bs a r in
-        let b : length c ≤ k = omega (arith, at-hand r) in
-        let try : ℕ → Bool = spec.clauseDoes (listed us) o c (spec.serves (listed us) left o c bs a) in
-        record { kept = kept; answer = sym (so ∙ any-none try k (length c) b) })

@@ -7,7 +7,7 @@ use mathlib.Core.List.{List, [], _∷_, _++_}
 use mathlib.Core.Option.{Option, none, some}
 use lib.Dec.{ltb, leb}
 use lib.ListN.{length, getD, getElem?, set, length-set}
-use lib.Seq.{sets, length-sets}
+use lib.Seq.{length-sets}
 use borrow.Author.Tests.{ltb-true, ltb-false, lt-ltb, le-ltb}
 use Rattle.basics.specs.Choice.{nope}
 use Rattle.harrop.specs.declared.Binding.the-variants.{Candidate, Parameter}
@@ -22,12 +22,15 @@ use Rattle.room.specs.Layout.{words, candidatesWord, highestWord, supposedWord,
 use Rattle.room.specs.Frame.{bindingWord, held}
 use Rattle.room.specs.Spot.{spotWords, supposing}
 use Rattle.room.specs.Table.{CandidatesIn}
-use Rattle.room.specs.Where.{Files, Kept, further, within, bound, supposes}
+use Rattle.room.specs.Where.{Files, plus, further, within, bound, supposes}
 use Rattle.room.specs.declared.Where.{Where}
 use Rattle.room.proofs.FileLaws.{supposing-some}
-use Rattle.room.proofs.WhereLaws.{file, part-means, means-kept}
-use Rattle.room.proofs.MoveLaws.{bound-means, supposes-means}
+use Rattle.room.proofs.WhereLaws.{file, part-means, means-kept, kept-then}
+use Rattle.room.proofs.MoveLaws.{bound-means, supposes-means, suppose-keeps}
+use Rattle.table.specs.Recall.{TableOnly, Forgets}
+use Rattle.provable.specs.Stock.{Stock, Keeps}
 use Rattle.provable.specs.Proving.{Ready}
+use Rattle.provable.proofs.StockLaws.{kept-below, stock-set, stock-under, stock-back}
 
 -- whether a candidate may be used, by the room's table
 pub may-be : (room terms : List ℕ) (us : List Term) (o : List Plain) (q : Plain) (i p : ℕ) → CandidatesIn room terms us → length o ≡ p → (ltb i (getD room candidatesWord 0) && leb (getD room (highestWord i) 0) p) ≡ allowed (listed us) o q i
@@ -58,9 +61,9 @@ allowed-below us o q i = go (getElem? us i) refl
     go (some t) e f = member-below us i t e
 
 module _ {f : Files} {room : List ℕ} {ds : List (Clause Plain)} {us : List Term} {w : Where} {o : List Plain} {c : Hand Plain} {bs : Bindings} where
-  -- a place whose words are as they were
-  pub ready-kept : {height : ℕ} {g : Goal Plain} {after : List ℕ} → Kept (w .supposed) (w .top) room after → length after ≡ length room → Ready f room ds us w height o c bs g → Ready f after ds us w height o c bs g
-  ready-kept k e r = record { place = means-kept k (r .place); enough = r .enough; long = omega (arith, r .long) }
+  -- a place whose words are as they were, and what is kept beside the stack is right still
+  pub ready-kept : {height : ℕ} {g : Goal Plain} {after : List ℕ} → Keeps (Stock f ds us (w .supposed) c) (w .supposed) (w .top) room after → length after ≡ length room → Ready f room ds us w height o c bs g → Ready f after ds us w height o c bs g
+  ready-kept k e r = record { place = means-kept (k .words) (r .place); enough = r .enough; long = omega (arith, r .long); low = r .low; stock = k .stock (r .stock) }
 
   module _ {left : ℕ} {g : Goal Plain} (r : Ready f room ds us w (suc left) o c bs g) where
     -- a part of the goal
@@ -75,6 +78,8 @@ module _ {f : Files} {room : List ℕ} {ds : List (Clause Plain)} {us : List Ter
                 opened = omega (arith, r .enough .opened);
               };
           long = r .long;
+          low = omega (arith, r .low);
+          stock = r .stock;
         }
 
     -- with a candidate for its variable
@@ -89,6 +94,8 @@ module _ {f : Files} {room : List ℕ} {ds : List (Clause Plain)} {us : List Ter
                 opened = omega (arith, r .enough .opened);
               };
           long = omega (arith, r .long, length-set room (w .top) (held (bindingWord (Candidate i))));
+          low = omega (arith, r .low);
+          stock = stock-set (w .top) (held (bindingWord (Candidate i))) (omega (arith, r .low)) (r .stock);
         }
 
     -- with one more parameter for it
@@ -103,22 +110,41 @@ module _ {f : Files} {room : List ℕ} {ds : List (Clause Plain)} {us : List Ter
                 opened = omega (arith, r .enough .opened);
               };
           long = omega (arith, r .long, length-set room (w .top) (held (bindingWord (Parameter p))));
+          low = omega (arith, r .low);
+          stock = stock-set (w .top) (held (bindingWord (Parameter p))) (omega (arith, r .low)) (r .stock);
         }
 
-    -- under a clause; the part has a height, so there is room for the clause
-    pub ready-under : (k n : ℕ) (d : Clause Plain) (g′ : Goal Plain) → (left ≡ 0 → ⊥) → Stands (file (r .place)) (w .goal .at + k) (clauseSexp d) → nesting (clauseSexp d) ≤ nesting (goalSexp g) → clauseOk (length bs) d ≡ true → Stands (file (r .place)) (w .goal .at + n) (goalSexp g′) → nesting (goalSexp g′) ≤ nesting (goalSexp g) → goalOk (length bs) g′ ≡ true
-        → Ready f (supposing room (w .supposed) (further (w .goal) k)) ds us (supposes w n) left o (c ++ (record { clause = d; bindings = bs } ∷ [])) bs g′
-    ready-under k n d g′ z hd ld okd hg lg ok =
+    -- under a clause, where what was found under another in its place is forgotten; the part has a height, so there is room for the clause
+    pub ready-under : {after : List ℕ} (k n : ℕ) (d : Clause Plain) (g′ : Goal Plain) → (left ≡ 0 → ⊥) → Stands (file (r .place)) (w .goal .at + k) (clauseSexp d) → nesting (clauseSexp d) ≤ nesting (goalSexp g) → clauseOk (length bs) d ≡ true → Stands (file (r .place)) (w .goal .at + n) (goalSexp g′) → nesting (goalSexp g′) ≤ nesting (goalSexp g) → goalOk (length bs) g′ ≡ true
+        → TableOnly (supposing room (w .supposed) (further (w .goal) k)) after → Forgets (supposing room (w .supposed) (further (w .goal) k)) after (plus (w .supposed) 1)
+        → Ready f after ds us (supposes w n) left o (c ++ (record { clause = d; bindings = bs } ∷ [])) bs g′
+    ready-under {after} k n d g′ z hd ld okd hg lg ok only gone =
         let few : w .supposed < supposedAtMost = omega (arith, r .enough .supposed) in
         let low : w .top ≤ words = omega (arith, r .enough .bindings) in
         let e = ap length (supposing-some room (w .supposed) (further (w .goal) k) few) ∙ length-sets room (supposedWord (w .supposed)) (spotWords (further (w .goal) k)) in
         record {
-          place = supposes-means (r .place) k n d g′ hd ld okd hg lg ok few low (r .long);
+          place = means-kept (kept-below (omega arith) (omega (arith, r .low)) only) (supposes-means (r .place) k n d g′ hd ld okd hg lg ok few low (r .long));
           enough =
               record {
                 bindings = omega (arith, r .enough .bindings);
                 supposed = omega (arith, r .enough .supposed);
                 opened = omega (arith, r .enough .opened);
               };
-          long = omega (arith, r .long, e);
+          long = omega (arith, r .long, e, only .long);
+          low = omega (arith, r .low);
+          stock = stock-under (plus (w .supposed) 1) (further (w .goal) k) (record { clause = d; bindings = bs } ∷ []) (omega arith) few (r .place .hand .number) (r .place .booked) only gone (r .stock);
+        }
+
+    -- and what a call under it keeps, the place keeps
+    pub under-keeps : {mid after : List ℕ} (k : ℕ) (xs : Hand Plain) → (left ≡ 0 → ⊥) → TableOnly (supposing room (w .supposed) (further (w .goal) k)) mid → Forgets (supposing room (w .supposed) (further (w .goal) k)) mid (plus (w .supposed) 1)
+        → Keeps (Stock f ds us (plus (w .supposed) 1) (c ++ xs)) (plus (w .supposed) 1) (w .top) mid after → Keeps (Stock f ds us (w .supposed) c) (w .supposed) (w .top) room after
+    under-keeps {mid} {after} k xs z only gone x =
+        let few : w .supposed < supposedAtMost = omega (arith, r .enough .supposed) in
+        let y = further (w .goal) k in
+        let n = r .place .hand .number in
+        record {
+          words =
+              kept-then {s′ = w .supposed} {t′ = w .top} room (supposing room (w .supposed) y) after (omega arith) (omega arith) (suppose-keeps room (w .supposed) (w .top) y few)
+              (kept-then {s′ = plus (w .supposed) 1} {t′ = w .top} (supposing room (w .supposed) y) mid after (omega arith) (omega arith) (kept-below (omega arith) (omega (arith, r .low)) only) (x .words));
+          stock = λ s. stock-back (plus (w .supposed) 1) xs (omega arith) (omega arith) (x .stock (stock-under (plus (w .supposed) 1) y xs (omega arith) few n (r .place .booked) only gone s));
         }

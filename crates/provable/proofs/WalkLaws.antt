@@ -1,9 +1,9 @@
 -- The walk of the yes or no, one step at a time, in the numbers that a loop has: a height above 0 and one less, clause k and clause k + 1, candidate i and candidate i + 1.
 use Prim.Native.Nat.{ℕ, zero, suc, _+_, _-_, _≤_, _<_}
-use mathlib.Core.Path.{_≡_, refl, sym, _∙_, ap, ap₂}
+use mathlib.Core.Path.{_≡_, refl, _∙_, ap, ap₂}
 use mathlib.Core.Bool.{Bool, true, false, _&&_, _||_}
 use mathlib.Core.List.{List, [], _∷_, _++_}
-use mathlib.Core.Option.{Option, none, some}
+use mathlib.Core.Option.{Option, some}
 use native.Mathlib.Omega.{arith}
 use native.Mathlib.Numerals.{sub-one}
 use lib.ListN.{length, getElem?}
@@ -24,6 +24,12 @@ any-here f i n l =
 pub any-none : (f : ℕ → Bool) (i n : ℕ) → n ≤ i → anyFrom f i (n - i) ≡ false
 unfolding anyFrom
 any-none f i n l = ap (anyFrom f i) {x = n - i} {y = 0} (omega arith)
+
+-- where each says no
+pub any-no : (f : ℕ → Bool) (i n : ℕ) → ((j : ℕ) → i ≤ j → j < i + n → f j ≡ false) → anyFrom f i n ≡ false
+unfolding anyFrom
+any-no f i zero h = refl
+any-no f i (suc n) h = ap₂ _||_ (h i (omega arith) (omega arith)) (any-no f (suc i) n (λ j a b. h j (omega arith) (omega arith)))
 
 module _ {Q : Type 0} (cs : Candidates Q) (o : List Q) where
   -- candidates by number

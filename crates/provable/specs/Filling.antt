@@ -1,15 +1,15 @@
 -- A clause with no `and` on the way to its head, searched with its variables unset at first: what its frame may become, and what a search that sets them one after the other says (document 02, Three: the head decides before candidates are tried, and a goal of a body is looked at as soon as its variables are set).
--- No order is in it: a yes says that the frame can be completed so that a path ends well, a no that it cannot. That this is `passes` of the whole clause is shown in proofs/FillingLaws.
+-- A yes says that the frame that is left is the first completion with which a path ends well (specs/First), a no that there is none. That this is `passes` of the whole clause is shown in proofs/FillingLaws.
 use Prim.Native.Nat.{ℕ, zero, suc, _+_, _-_, _≤_, _<_}
 use mathlib.Core.Path.{_≡_}
 use mathlib.Core.Bool.{Bool, true, false}
-use mathlib.Core.List.{List, [], _∷_}
-use lib.ListN.{length, getD}
-use Rattle.harrop.specs.declared.Binding.{Binding}
+use mathlib.Core.List.{List}
+use mathlib.Core.Option.{some}
+use lib.ListN.{length, getD, getElem?, drop}
 use Rattle.harrop.specs.declared.Binding.the-variants.{Candidate}
 use Rattle.harrop.specs.Formula.{Term, Atom, Goal, Clause}
-use Rattle.harrop.specs.Bindings.{Bindings}
-use Rattle.harrop.specs.Place.{Hand, Plain, listed, allowed}
+use Rattle.harrop.specs.Bindings.{Bindings, replacedAtom}
+use Rattle.harrop.specs.Place.{AtHand, Hand, Plain, listed, allowed}
 use Rattle.packet.specs.declared.Word.{Word}
 use Rattle.packet.specs.declared.Word.the-variants as W
 use Rattle.packet.specs.Written.{goalSexp, atomSexp}
@@ -21,38 +21,16 @@ use Rattle.room.specs.Where.{Files, Live, Kept, Framed}
 use Rattle.room.specs.declared.Spot.{Spot}
 use Rattle.room.specs.declared.Where.{Where}
 use Rattle.heads.specs.Heads.{goalWord}
-use Rattle.mentions.specs.Open.{unset, isUnset, isOpen, asked}
+use Rattle.keys.specs.Key.{atomKey, predicateKey}
+use Rattle.mentions.specs.Open.{unset, isOpen, asked}
 use Rattle.mentions.specs.Mentions.{mentionsGoal}
 use Rattle.provable.specs.Provable as provable
-use Rattle.provable.specs.Proving.{Ready, Answers, passes}
-use Rattle.provable.specs.Parts.{variableWord}
+use Rattle.provable.specs.Stock.{Stock, Keeps}
+use Rattle.provable.specs.Proving.{Ready, Taken, Answers, passes}
+use Rattle.provable.specs.Parts.{variableWord, isPlain, quantifiers, core}
+use Rattle.provable.specs.Frames.{alls, unsets, setTo, Completes}
+use Rattle.provable.specs.First.{FirstFrame, Forcing, Located}
 use Rattle.provable.specs.declared.plain.Parts.{Parts}
-
--- so many quantifiers around a clause, so many unset variables before others, and a frame with another binding for variable v
-abbrev pub alls : ℕ → Clause Plain → Clause Plain
-alls zero d = d
-alls (suc m) d = Clause.allD tt (alls m d)
-
-abbrev pub unsets : ℕ → Bindings → Bindings
-unsets zero bs = bs
-unsets (suc m) bs = unset ∷ unsets m bs
-
-abbrev pub setTo : ℕ → Binding → Bindings → Bindings
-setTo v d [] = []
-setTo zero d (b ∷ bs) = d ∷ bs
-setTo (suc v) d (b ∷ bs) = b ∷ setTo v d bs
-
--- a frame completed: each of its first m variables that is unset gets a candidate that may be used, and the others stay
-module _ (us : List Term) (o : List Plain) where
-  pub record Fills (b d : Binding) : Type 0 where
-    pub gets : isUnset b ≡ true → (i : ℕ) × (d ≡ Candidate i) × (allowed (listed us) o tt i ≡ true)
-    pub stays : isUnset b ≡ false → d ≡ b
-
-  abbrev pub Completes : ℕ → Bindings → Bindings → Type 0
-  Completes zero bs ds = ds ≡ bs
-  Completes (suc m) [] ds = ⊥
-  Completes (suc m) (b ∷ bs) [] = ⊥
-  Completes (suc m) (b ∷ bs) (d ∷ ds) = Fills b d × Completes m bs ds
 
 -- a goal that is looked at: it holds no unset variable and, if variable v is asked for as well, holds that one
 pub record Due (own : ℕ) (bs : Bindings) (also : Bool) (v : ℕ) (g : Goal Plain) : Type 0 where
@@ -80,8 +58,8 @@ pub record Looks (us : List Term) (o : List Plain) (c : Hand Plain) (own : ℕ) 
   pub no : r ≡ false → (ds : Bindings) → Completes us o own bs ds → provable.provable (listed us) h o c ds g ≡ false
 
 -- and what is relied on is kept
-pub record Seen (supposed top : ℕ) (room after : List ℕ) (us : List Term) (o : List Plain) (c : Hand Plain) (own : ℕ) (bs : Bindings) (also : Bool) (v h : ℕ) (g : Goal Plain) (r : Bool) : Type 0 where
-  pub kept : Kept supposed top room after
+pub record Seen (right : List ℕ → Type 0) (supposed top : ℕ) (room after : List ℕ) (us : List Term) (o : List Plain) (c : Hand Plain) (own : ℕ) (bs : Bindings) (also : Bool) (v h : ℕ) (g : Goal Plain) (r : Bool) : Type 0 where
+  pub kept : Keeps right supposed top room after
   pub says : Looks us o c own bs also v h g r
 
 -- whether the goal of a place is looked at: a yes says that it holds no unset variable, a no that it is not
@@ -99,7 +77,7 @@ abbrev pub Looking : Files → List ℕ → List ℕ → Where → ℕ → Bool 
 Looking f room after w own also v height r =
     (ds : List (Clause Plain)) (us : List Term) (o : List Plain) (c : Hand Plain) (bs : Bindings) (g : Goal Plain) →
     Ready f room ds us w height o c bs g →
-    Seen (w .supposed) (w .top) room after us o c own bs also v height g r
+    Seen (Stock f ds us (w .supposed) c) (w .supposed) (w .top) room after us o c own bs also v height g r
 
 -- the same of a goal with a word, and of one that is no `and`
 abbrev pub LookingAs : Word → Files → List ℕ → List ℕ → Where → ℕ → Bool → ℕ → ℕ → Bool → Type 0
@@ -107,14 +85,14 @@ LookingAs word f room after w own also v height r =
     (ds : List (Clause Plain)) (us : List Term) (o : List Plain) (c : Hand Plain) (bs : Bindings) (g : Goal Plain) →
     goalWord g ≡ word →
     Ready f room ds us w height o c bs g →
-    Seen (w .supposed) (w .top) room after us o c own bs also v height g r
+    Seen (Stock f ds us (w .supposed) c) (w .supposed) (w .top) room after us o c own bs also v height g r
 
 abbrev pub LookingOne : Files → List ℕ → List ℕ → Where → ℕ → Bool → ℕ → ℕ → Bool → Type 0
 LookingOne f room after w own also v height r =
     (ds : List (Clause Plain)) (us : List Term) (o : List Plain) (c : Hand Plain) (bs : Bindings) (g : Goal Plain) →
     (goalWord g ≡ W.And → ⊥) →
     Ready f room ds us w height o c bs g →
-    Seen (w .supposed) (w .top) room after us o c own bs also v height g r
+    Seen (Stock f ds us (w .supposed) c) (w .supposed) (w .top) room after us o c own bs also v height g r
 
 -- the parts of a clause at their spots, in one frame: its head, and its body if it has one
 pub record HeadIn (f : Files) (room : List ℕ) (p : Parts) (b : Atom) (fr : Bindings) : Type 0 where
@@ -149,22 +127,23 @@ pub record Unsets (room after : List ℕ) (x : Spot) (own : ℕ) : Type 0 where
   pub long : length after ≡ length room
   pub holds : own ≤ x .count → x .base + x .count ≤ length room → bindingsAt after x ≡ unsets own (bindingsIn room (x .base) (x .count - own))
   pub kept : own ≤ x .count → x .base + x .count ≤ length room → (i : ℕ) → i < x .base + (x .count - own) → getD after i 0 ≡ getD room i 0
+  pub above : own ≤ x .count → x .base + x .count ≤ length room → (i : ℕ) → x .base + x .count ≤ i → getD after i 0 ≡ getD room i 0
 
 -- what is said of a frame: it can be completed so that the path ends well, or it cannot
 pub record Fillable (us : List Term) (left : ℕ) (o : List Plain) (c : Hand Plain) (bs : Bindings) (a : Atom) (e : Clause Plain) (m : ℕ) (fr : Bindings) (r : Bool) : Type 0 where
   pub yes : r ≡ true → (ds : Bindings) × Completes us o m fr ds × (passes us left o c bs a e ds ≡ true)
   pub no : r ≡ false → (ds : Bindings) → Completes us o m fr ds → passes us left o c bs a e ds ≡ false
 
--- what the atom forces is set: whatever is said of the frame then holds of the frame before; or it cannot be
+-- what the atom forces is set, and nothing else: whatever is said of the frame then holds of the frame before; or it cannot be
 pub record Settled (f : Files) (after : List ℕ) (ds : List (Clause Plain)) (us : List Term) (w : Where) (p : Parts) (left : ℕ) (o : List Plain) (c : Hand Plain) (bs : Bindings) (a : Atom) (e : Clause Plain) (fr : Bindings) (r : Bool) : Type 0 where
-  pub yes : r ≡ true → (fr′ : Bindings) × Filling f after ds us w p left o c bs a e fr′ × ((s : Bool) → Fillable us left o c bs a e (p .own) fr′ s → Fillable us left o c bs a e (p .own) fr s)
+  pub yes : r ≡ true → (fr′ : Bindings) × Filling f after ds us w p left o c bs a e fr′ × Forcing us o (p .own) (passes us left o c bs a e) (drop (p .own) fr) fr′ × ((s : Bool) → Fillable us left o c bs a e (p .own) fr′ s → Fillable us left o c bs a e (p .own) fr s)
   pub no : r ≡ false → Fillable us left o c bs a e (p .own) fr false
 
 abbrev pub Settling : Files → List ℕ → List ℕ → Where → Parts → Bool → Type 0
 Settling f room after w p r =
     (ds : List (Clause Plain)) (us : List Term) (left : ℕ) (o : List Plain) (c : Hand Plain) (bs : Bindings) (a : Atom) (e : Clause Plain) (fr : Bindings) →
     Filling f room ds us w p left o c bs a e fr → ((i : ℕ) → i < p .own → isOpen (p .own) fr i ≡ true) →
-    (Kept (w .supposed) (floor p) room after) × Settled f after ds us w p left o c bs a e fr r
+    Keeps (Stock f ds us (w .supposed) c) (w .supposed) (floor p) room after × Settled f after ds us w p left o c bs a e fr r
 
 -- all goals of the body that hold no unset variable have a proof
 abbrev pub LookedAll : List Term → ℕ → List Plain → Hand Plain → ℕ → Clause Plain → Bindings → Type 0
@@ -181,8 +160,8 @@ LookedNew us left o c own also v (Clause.allD q d) fr = Unit {0}
 LookedNew us left o c own also v (Clause.andD d e) fr = Unit {0}
 
 -- the body of the clause looked at
-pub record BodySeen (w : Where) (p : Parts) (left : ℕ) (room after : List ℕ) (us : List Term) (o : List Plain) (c : Hand Plain) (bs : Bindings) (a : Atom) (also : Bool) (v : ℕ) (e : Clause Plain) (fr : Bindings) (r : Bool) : Type 0 where
-  pub kept : Kept (w .supposed) (p .head .base + p .head .count) room after
+pub record BodySeen (right : List ℕ → Type 0) (w : Where) (p : Parts) (left : ℕ) (room after : List ℕ) (us : List Term) (o : List Plain) (c : Hand Plain) (bs : Bindings) (a : Atom) (also : Bool) (v : ℕ) (e : Clause Plain) (fr : Bindings) (r : Bool) : Type 0 where
+  pub kept : Keeps right (w .supposed) (p .head .base + p .head .count) room after
   pub yes : r ≡ true → LookedNew us left o c (p .own) also v e fr
   pub no : r ≡ false → Fillable us left o c bs a e (p .own) fr false
 
@@ -190,11 +169,16 @@ abbrev pub LookingBody : Files → List ℕ → List ℕ → Where → Parts →
 LookingBody f room after w p also v left r =
     (ds : List (Clause Plain)) (us : List Term) (o : List Plain) (c : Hand Plain) (bs : Bindings) (a : Atom) (e : Clause Plain) (fr : Bindings) →
     Filling f room ds us w p left o c bs a e fr →
-    BodySeen w p left room after us o c bs a also v e fr r
+    BodySeen (Stock f ds us (w .supposed) c) w p left room after us o c bs a also v e fr r
+
+-- what is said of a frame in which only the first k variables may be unset: the frame that is left is its first completion, and does; or none does
+pub record Filled (us : List Term) (left : ℕ) (o : List Plain) (c : Hand Plain) (bs : Bindings) (a : Atom) (e : Clause Plain) (m k : ℕ) (fr end : Bindings) (r : Bool) : Type 0 where
+  pub yes : r ≡ true → FirstFrame us o m (passes us left o c bs a e) k fr end × (passes us left o c bs a e end ≡ true)
+  pub no : r ≡ false → (ds : Bindings) → Completes us o m fr ds → passes us left o c bs a e ds ≡ false
 
 -- what a search of frames leaves: what is below the clause's own variables is kept and, after a no, the frame as well
-pub record Leaves (w : Where) (p : Parts) (room after : List ℕ) (r : Bool) : Type 0 where
-  pub kept : Kept (w .supposed) (floor p) room after
+pub record Leaves (right : List ℕ → Type 0) (w : Where) (p : Parts) (room after : List ℕ) (r : Bool) : Type 0 where
+  pub kept : Keeps right (w .supposed) (floor p) room after
   pub whole : r ≡ false → Kept (w .supposed) (p .head .base + p .head .count) room after
 
 -- the search of the frames from a frame on, where only the first k variables may be unset
@@ -202,29 +186,32 @@ abbrev pub FillingFrom : Files → List ℕ → List ℕ → Where → Parts →
 FillingFrom f room after w p k left r =
     (ds : List (Clause Plain)) (us : List Term) (o : List Plain) (c : Hand Plain) (bs : Bindings) (a : Atom) (e : Clause Plain) (fr : Bindings) →
     Filling f room ds us w p left o c bs a e fr → k ≤ p .own → ((i : ℕ) → k ≤ i → isOpen (p .own) fr i ≡ false) → LookedAll us left o c (p .own) e fr →
-    Leaves w p room after r × Fillable us left o c bs a e (p .own) fr r
+    Leaves (Stock f ds us (w .supposed) c) w p room after r × Filled us left o c bs a e (p .own) k fr (bindingsAt after (p .head)) r
 
 -- variable v, which is unset, with each candidate
 abbrev pub FillingEach : Files → List ℕ → List ℕ → Where → Parts → ℕ → ℕ → Bool → Type 0
 FillingEach f room after w p v left r =
     (ds : List (Clause Plain)) (us : List Term) (o : List Plain) (c : Hand Plain) (bs : Bindings) (a : Atom) (e : Clause Plain) (fr : Bindings) →
     Filling f room ds us w p left o c bs a e fr → isOpen (p .own) fr v ≡ true → ((i : ℕ) → v < i → isOpen (p .own) fr i ≡ false) → LookedAll us left o c (p .own) e fr →
-    Leaves w p room after r × Fillable us left o c bs a e (p .own) fr r
+    Leaves (Stock f ds us (w .supposed) c) w p room after r × Filled us left o c bs a e (p .own) (suc v) fr (bindingsAt after (p .head)) r
 
 -- with candidate i, whatever stands there in the room; after a no, all but the variable's own word is as it was
-pub record LeavesBut (w : Where) (p : Parts) (v : ℕ) (room after : List ℕ) (r : Bool) : Type 0 where
-  pub kept : Kept (w .supposed) (floor p) room after
+pub record LeavesBut (right : List ℕ → Type 0) (w : Where) (p : Parts) (v : ℕ) (room after : List ℕ) (r : Bool) : Type 0 where
+  pub kept : Keeps right (w .supposed) (floor p) room after
   pub whole : r ≡ false → (i : ℕ) → Live (w .supposed) (p .head .base + p .head .count) i → (i ≡ variableWord (p .head) v → ⊥) → getD after i 0 ≡ getD room i 0
 
-pub record FillableWith (us : List Term) (left : ℕ) (o : List Plain) (c : Hand Plain) (bs : Bindings) (a : Atom) (e : Clause Plain) (m v i : ℕ) (fr : Bindings) (r : Bool) : Type 0 where
-  pub yes : r ≡ true → (ds : Bindings) × Completes us o m (setTo v unset fr) ds × (passes us left o c bs a e ds ≡ true)
-  pub no : r ≡ false → allowed (listed us) o tt i ≡ true → (ds : Bindings) → Completes us o m (setTo v (Candidate i) fr) ds → passes us left o c bs a e ds ≡ false
+abbrev pub Fails : List Term → ℕ → List Plain → Hand Plain → Bindings → Atom → Clause Plain → ℕ → ℕ → ℕ → Bindings → Type 0
+Fails us left o c bs a e m v i fr = allowed (listed us) o tt i ≡ true → (ds : Bindings) → Completes us o m (setTo v (Candidate i) fr) ds → passes us left o c bs a e ds ≡ false
+
+pub record FilledWith (us : List Term) (left : ℕ) (o : List Plain) (c : Hand Plain) (bs : Bindings) (a : Atom) (e : Clause Plain) (m v i : ℕ) (fr end : Bindings) (r : Bool) : Type 0 where
+  pub yes : r ≡ true → (allowed (listed us) o tt i ≡ true) × FirstFrame us o m (passes us left o c bs a e) v (setTo v (Candidate i) fr) end × (passes us left o c bs a e end ≡ true)
+  pub no : r ≡ false → Fails us left o c bs a e m v i fr
 
 abbrev pub FillingWith : Files → List ℕ → List ℕ → Where → Parts → ℕ → ℕ → ℕ → Bool → Type 0
 FillingWith f room after w p v i left r =
     (ds : List (Clause Plain)) (us : List Term) (o : List Plain) (c : Hand Plain) (bs : Bindings) (a : Atom) (e : Clause Plain) (fr : Bindings) →
     Filling f room ds us w p left o c bs a e fr → v < p .own → ((j : ℕ) → v < j → isOpen (p .own) fr j ≡ false) → LookedAll us left o c (p .own) e (setTo v unset fr) →
-    LeavesBut w p v room after r × FillableWith us left o c bs a e (p .own) v i fr r
+    LeavesBut (Stock f ds us (w .supposed) c) w p v room after r × FilledWith us left o c bs a e (p .own) v i fr (bindingsAt after (p .head)) r
 
 -- the whole clause, whose own variables are nothing yet: its parts stand, and the frame of the others is below them
 pub record Starting (f : Files) (room : List ℕ) (ds : List (Clause Plain)) (us : List Term) (w : Where) (p : Parts) (left : ℕ) (o : List Plain) (c : Hand Plain) (bs : Bindings) (a : Atom) (e : Clause Plain) (bs′ : Bindings) : Type 0 where
@@ -239,4 +226,31 @@ abbrev pub PassingParts : Files → List ℕ → List ℕ → Where → Parts �
 PassingParts f room after w p left r =
     (ds : List (Clause Plain)) (us : List Term) (o : List Plain) (c : Hand Plain) (bs : Bindings) (a : Atom) (e : Clause Plain) (bs′ : Bindings) →
     Starting f room ds us w p left o c bs a e bs′ →
-    Answers (w .supposed) (floor p) room after (passes us left o c bs a (alls (p .own) e) bs′) r
+    Answers (Stock f ds us (w .supposed) c) (w .supposed) (floor p) room after (passes us left o c bs a (alls (p .own) e) bs′) r × (r ≡ true → Located us left o c bs a (p .own) e bs′ after (floor p))
+
+-- what a yes leaves behind the frame of a clause at a spot, if the clause has no `and` on the way to its head: the numbers of the path
+abbrev pub Locating : Files → List ℕ → List ℕ → Where → Spot → ℕ → Bool → Type 0
+Locating f room after w x left r =
+    (ds : List (Clause Plain)) (us : List Term) (o : List Plain) (c : Hand Plain) (bs : Bindings) (a : Atom) (d : Clause Plain) (bs′ : Bindings) →
+    Taken f room ds us w x left o c bs a d bs′ → isPlain d ≡ true → r ≡ true →
+    Located us left o c bs a (quantifiers d) (core d) bs′ after (x .base + x .count)
+
+-- and behind that of clause k, on top of the stack
+abbrev pub LocatedAt : List Term → ℕ → List Plain → Hand Plain → Bindings → Atom → ℕ → List ℕ → ℕ → Type 0
+LocatedAt us left o c bs a top after k =
+    (h : AtHand Plain) → getElem? c k ≡ some h → isPlain (h .clause) ≡ true →
+    Located us left o c bs a (quantifiers (h .clause)) (core (h .clause)) (h .bindings) after (top + length (h .bindings))
+
+abbrev pub LocatingAt : Files → List ℕ → List ℕ → Where → ℕ → ℕ → Type 0
+LocatingAt f room after w left k =
+    (ds : List (Clause Plain)) (us : List Term) (o : List Plain) (c : Hand Plain) (bs : Bindings) (a : Atom) →
+    Ready f room ds us w (suc left) o c bs (Goal.atom a) →
+    LocatedAt us left o c bs a (w .top) after k
+
+-- the same where the numbers of the atom and of its predicate are known
+abbrev pub LocatingFirst : Files → List ℕ → List ℕ → Where → ℕ → ℕ → ℕ → ℕ → Type 0
+LocatingFirst f room after w predicate key left k =
+    (ds : List (Clause Plain)) (us : List Term) (o : List Plain) (c : Hand Plain) (bs : Bindings) (a : Atom) →
+    Ready f room ds us w (suc left) o c bs (Goal.atom a) →
+    predicate ≡ predicateKey a → key ≡ atomKey (replacedAtom us bs a) →
+    LocatedAt us left o c bs a (w .top) after k

@@ -1,5 +1,9 @@
 pub mod Provable
 pub mod Hand
+pub mod Stock
 pub mod Proving
 pub mod Parts
+pub mod Frames
+pub mod First
 pub mod Filling
+pub mod Tried

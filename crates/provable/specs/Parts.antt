@@ -10,6 +10,7 @@ use Rattle.harrop.specs.Place.{Plain}
 use Rattle.sexp.specs.Sexp.{Stands, nesting}
 use Rattle.packet.specs.Written.{atomSexp, goalSexp, clauseSexp}
 use Rattle.packet.specs.File.{mostBytes}
+use Rattle.room.specs.Layout.{levels}
 use Rattle.room.specs.Where.{Files, plus}
 use Rattle.room.specs.declared.Spot.{Spot}
 use Rattle.room.specs.declared.Where.{Where}
@@ -53,6 +54,10 @@ pub record PartsOf (f : Files) (x : Spot) (own nest : ℕ) (r : Parts) : Type 0 
   pub few : r .own ≤ own + nest
   pub told : (d : Clause Plain) → nesting (clauseSexp d) ≤ nest → ClauseThere f x d → x .count + nest ≤ mostBytes → own + nest ≤ mostBytes → r .found ≡ isPlain d
   pub parts : (d : Clause Plain) → nesting (clauseSexp d) ≤ nest → ClauseThere f x d → x .count + nest ≤ mostBytes → own + nest ≤ mostBytes → r .found ≡ true → PartsAt f x own d r
+
+-- whether the clause at a spot is such a one
+abbrev pub PlainAt : Files → Spot → Bool → Type 0
+PlainAt f x r = (d : Clause Plain) → nesting (clauseSexp d) ≤ levels → ClauseThere f x d → x .count ≤ levels → r ≡ isPlain d
 
 -- the word of the room that variable v of a frame is in
 abbrev pub variableWord : Spot → ℕ → ℕ

@@ -1,9 +1,11 @@
 // Which clauses are at hand, by the room's tables, and the frame that one of them is taken apart in (document 01, "When a strip fits": clause k is at hand).
 use crate::Chosen;
+use packet::Word;
+use places::plus;
+use reader::word_at;
 use room::Source;
 use room::Spot;
 use room::copy;
-use room::plus;
 use room::supposed;
 ghost use mathlib.Core.Path.{_≡_};
 ghost use lib.ListN.{getD};
@@ -52,6 +54,15 @@ fn at_hand(room: &[u32], k: usize, supposes: usize) -> Chosen
         return Chosen::Clause(supposed(room, k - rules));
     }
     Chosen::Nothing
+}
+
+// Whether rule k is an atom with nothing around it.
+pub(crate) fn is_fact(rules: &[u8], room: &[u32], k: usize) -> bool {
+    let at = word(room, plus(1, k)) as usize;
+    match word_at(rules, plus(at, 1)) {
+        Word::Atom => true,
+        _ => false,
+    }
 }
 
 // Clause k with a new frame on top of the stack, which holds its bindings.

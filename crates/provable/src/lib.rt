@@ -2,11 +2,14 @@
 mod hand;
 mod plain;
 mod provable;
+mod tried;
 
 pub use hand::candidates;
 pub use hand::clauses;
 pub use hand::deeper;
 pub use hand::open_clause;
+pub use plain::is_plain;
+pub use provable::find_clause;
 pub use provable::prove_goal;
 pub use provable::prove_with;
 pub use provable::through;

@@ -3,21 +3,21 @@
 use crate::hand::deeper;
 use harrop::Binding;
 use packet::Word;
+use places::further;
+use places::past_part;
+use places::plus;
+use places::word_there;
 use room::Spot;
 use room::Where;
-use room::further;
-use room::may_use;
-use room::past_part;
-use room::plus;
 use room::push;
-use room::word_there;
 use sexp::After;
+use start::may_use;
 use unset::Forced;
 use unset::forced_by;
 ghost use Rattle.room.specs.Where.{filesOf};
 ghost use mathlib.Core.Bool.{false};
 ghost use mathlib.Core.Path.{_≡_};
-ghost use Rattle.provable.specs.Parts.{PartsOf, variableWord, bodyPlace};
+ghost use Rattle.provable.specs.Parts.{PartsOf, PlainAt, variableWord, bodyPlace};
 ghost use Rattle.provable.specs.Filling.{Unsets, Settling};
 
 // Such a clause: how many variables of its own it has, whether it has a body, and where body and head stand, in the frame of all its variables.
@@ -81,6 +81,14 @@ pub(crate) fn parts_of<'a>(
         Word::All => parts_of(rules, goal, terms, deeper(x, 6), plus(own, 1), nest - 1),
         _ => no_parts(x),
     }
+}
+
+// Whether the clause at a spot is such a one.
+pub fn is_plain<'a>(rules: &'a [u8], goal: &'a [u8], terms: &'a [u8], x: Spot) -> bool
+    ensures { λ r. ⌜ PlainAt (filesOf (now (rules .entry)) (now (goal .entry)) (now (terms .entry))) x r ⌝ }
+{
+    let p = parts_of(rules, goal, terms, x, 0, 64);
+    p.found
 }
 
 // Where variable v of a frame is kept.

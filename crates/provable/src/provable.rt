@@ -4,6 +4,7 @@ use crate::Chosen;
 use crate::hand::candidates;
 use crate::hand::clauses;
 use crate::hand::deeper;
+use crate::hand::is_fact;
 use crate::hand::open_clause;
 use crate::plain::Parts;
 use crate::plain::body_place;
@@ -11,31 +12,43 @@ use crate::plain::parts_of;
 use crate::plain::settle;
 use crate::plain::unset_all;
 use crate::plain::word_of;
+use crate::tried::is_left_out;
+use crate::tried::narrow_body;
+use equal::same_atoms;
 use harrop::Binding;
 use heads::has_head;
+use keys::atom_key;
+use keys::next_clause;
+use keys::predicate_key;
 use packet::Word;
+use places::bound;
+use places::further;
+use places::past_part;
+use places::plus;
+use places::supposes;
+use places::within;
+use places::word_there;
 use room::Spot;
 use room::Where;
-use room::bound;
-use room::further;
-use room::may_use;
 use room::part;
-use room::past_part;
-use room::plus;
 use room::push;
-use room::same_atoms;
 use room::suppose;
-use room::supposes;
-use room::within;
-use room::word_there;
 use sexp::After;
+use start::may_use;
+use table::Recalled;
+use table::forget;
+use table::keep;
+use table::recall;
+use table::slot_for;
 use unset::holds;
 use unset::is_open;
 use unset::may_be;
+ghost use mathlib.Core.Path.{_≡_};
+ghost use mathlib.Core.Bool.{true};
 ghost use Rattle.packet.specs.declared.Word.the-variants as W;
 ghost use Rattle.room.specs.Where.{filesOf};
-ghost use Rattle.provable.specs.Proving.{Proving, ProvingAs, ProvingWith, ProvingBy, Passing, PassingAs, PassingWith};
-ghost use Rattle.provable.specs.Filling.{PassingParts, LookingBody, Looking, LookingAs, LookingOne, Dues, FillingFrom, FillingEach, FillingWith};
+ghost use Rattle.provable.specs.Proving.{Proving, ProvingAs, ProvingWith, ProvingBy, Finding, Deciding, Passing, PassingAs, PassingWith};
+ghost use Rattle.provable.specs.Filling.{PassingParts, Locating, LocatingAt, LocatingFirst, LookingBody, Looking, LookingAs, LookingOne, Dues, FillingFrom, FillingEach, FillingWith};
 
 // Whether the goal of a place has a proof of at most this height.
 pub fn prove_goal<'a>(
@@ -54,17 +67,17 @@ pub fn prove_goal<'a>(
     match word_there(rules, goal, terms, w.goal) {
         Word::Top => true,
         Word::Atom => prove_atom(rules, goal, terms, room, w, height - 1),
-        Word::And => prove_and(rules, goal, terms, room, w, height - 1),
+        Word::And => both(rules, goal, terms, room, w, height - 1),
         Word::Or => prove_or(rules, goal, terms, room, w, height - 1),
         Word::Some => prove_some(rules, goal, terms, room, w, height - 1),
         Word::All => prove_all(rules, goal, terms, room, w, height - 1),
-        Word::Imp => prove_imp(rules, goal, terms, room, w, height - 1),
+        Word::Imp => under(rules, goal, terms, room, w, height - 1),
         _ => false,
     }
 }
 
 // Both parts of an `and`, each with what is left of the height.
-fn prove_and<'a>(
+fn both<'a>(
     rules: &'a [u8],
     goal: &'a [u8],
     terms: &'a [u8],
@@ -164,7 +177,7 @@ fn prove_all<'a>(
 }
 
 // The part of an `imp`, under its clause.
-fn prove_imp<'a>(
+fn under<'a>(
     rules: &'a [u8],
     goal: &'a [u8],
     terms: &'a [u8],
@@ -181,10 +194,11 @@ fn prove_imp<'a>(
         return false;
     };
     suppose(room, w.supposed, further(w.goal, 6));
+    forget(room, plus(w.supposed, 1));
     prove_goal(rules, goal, terms, room, supposes(w, n), left)
 }
 
-// The clauses at hand in order, for an atom.
+// An atom: by the table if it has it, else by the clauses at hand. An atom that no clause can serve, by their numbers, is in no table. An atom's number is odd, so half of it says the slot.
 fn prove_atom<'a>(
     rules: &'a [u8],
     goal: &'a [u8],
@@ -195,18 +209,71 @@ fn prove_atom<'a>(
 ) -> bool
     ensures { λ r. ⌜ ProvingAs W.Atom (filesOf (now (rules .entry)) (now (goal .entry)) (now (terms .entry))) (now (room .entry)) (now (room .exit)) w left r ⌝ }
 {
+    let predicate = predicate_key(rules, goal, terms, w.goal);
+    let key = atom_key(rules, goal, terms, room, w.goal);
     let n = clauses(room, w.supposed);
-    let mut k = 0;
-    while k < n {
-        if use_clause(rules, goal, terms, room, w, k, left) {
-            return true;
-        }
-        k += 1;
+    if n <= next_clause(room, predicate, key, 0, n) {
+        return false;
     }
-    false
+    let at = slot_for(room, (key / 2) as usize);
+    match recall(rules, goal, terms, room, w, plus(left, 1), at) {
+        Recalled::No => false,
+        Recalled::Yes => true,
+        Recalled::Unknown => decide(rules, goal, terms, room, w, predicate, key, at, left),
+    }
 }
 
-// Clause k for an atom, with a frame of its own. Its heads are looked at before any candidate is tried (document 02, Three).
+// An atom by the clauses at hand; the table keeps what is found. A fact is found by its number just as well.
+fn decide<'a>(
+    rules: &'a [u8],
+    goal: &'a [u8],
+    terms: &'a [u8],
+    room: &mut [u32],
+    w: Where,
+    predicate: u32,
+    key: u32,
+    at: usize,
+    left: usize,
+) -> bool
+    ensures { λ r. ⌜ Deciding (filesOf (now (rules .entry)) (now (goal .entry)) (now (terms .entry))) (now (room .entry)) (now (room .exit)) w predicate key at left r ⌝ }
+{
+    let k = find_clause(rules, goal, terms, room, w, predicate, key, left);
+    if clauses(room, w.supposed) <= k {
+        keep(rules, goal, terms, room, w, plus(left, 1), at, false);
+        return false;
+    }
+    if is_fact(rules, room, k) {
+        return true;
+    }
+    keep(rules, goal, terms, room, w, plus(left, 1), at, true);
+    true
+}
+
+// The first clause at hand that serves an atom; how many there are if none does. Rules whose number says that they cannot are passed over. If no `and` is on the way to its head, the numbers of the first path through it are left behind its frame.
+pub fn find_clause<'a>(
+    rules: &'a [u8],
+    goal: &'a [u8],
+    terms: &'a [u8],
+    room: &mut [u32],
+    w: Where,
+    predicate: u32,
+    key: u32,
+    left: usize,
+) -> usize
+    ensures { λ r. ⌜ Finding (filesOf (now (rules .entry)) (now (goal .entry)) (now (terms .entry))) (now (room .entry)) (now (room .exit)) w predicate key left r × LocatingFirst (filesOf (now (rules .entry)) (now (goal .entry)) (now (terms .entry))) (now (room .entry)) (now (room .exit)) w predicate key left r ⌝ }
+{
+    let n = clauses(room, w.supposed);
+    let mut k = next_clause(room, predicate, key, 0, n);
+    while k < n {
+        if use_clause(rules, goal, terms, room, w, k, left) {
+            return k;
+        }
+        k = next_clause(room, predicate, key, k + 1, n);
+    }
+    n
+}
+
+// Clause k for an atom, with a frame of its own.
 pub fn use_clause<'a>(
     rules: &'a [u8],
     goal: &'a [u8],
@@ -216,18 +283,15 @@ pub fn use_clause<'a>(
     k: usize,
     left: usize,
 ) -> bool
-    ensures { λ r. ⌜ ProvingBy (filesOf (now (rules .entry)) (now (goal .entry)) (now (terms .entry))) (now (room .entry)) (now (room .exit)) w k left r ⌝ }
+    ensures { λ r. ⌜ ProvingBy (filesOf (now (rules .entry)) (now (goal .entry)) (now (terms .entry))) (now (room .entry)) (now (room .exit)) w k left r × (r ≡ true → LocatingAt (filesOf (now (rules .entry)) (now (goal .entry)) (now (terms .entry))) (now (room .entry)) (now (room .exit)) w left k) ⌝ }
 {
     let Chosen::Clause(x) = open_clause(room, k, w.supposed, w.top) else {
         return false;
     };
-    if !has_head(rules, goal, terms, x, w.goal, 64) {
-        return false;
-    }
     through(rules, goal, terms, room, w, x, 64, left)
 }
 
-// Whether a path through the clause at a spot ends at the atom, with a proof of the body if there is one.
+// Whether a path through the clause at a spot ends at the atom, with a proof of the body if there is one. Where an `and` is on the way, the heads are looked at before any candidate is tried (document 02, Three).
 pub fn through<'a>(
     rules: &'a [u8],
     goal: &'a [u8],
@@ -238,7 +302,7 @@ pub fn through<'a>(
     nest: usize,
     left: usize,
 ) -> bool
-    ensures { λ r. ⌜ Passing (filesOf (now (rules .entry)) (now (goal .entry)) (now (terms .entry))) (now (room .entry)) (now (room .exit)) w x nest left r ⌝ }
+    ensures { λ r. ⌜ Passing (filesOf (now (rules .entry)) (now (goal .entry)) (now (terms .entry))) (now (room .entry)) (now (room .exit)) w x nest left r × Locating (filesOf (now (rules .entry)) (now (goal .entry)) (now (terms .entry))) (now (room .entry)) (now (room .exit)) w x left r ⌝ }
 {
     if nest == 0 {
         return false;
@@ -247,9 +311,12 @@ pub fn through<'a>(
     if p.found {
         return start(rules, goal, terms, room, w, p, left);
     }
+    if !has_head(rules, goal, terms, x, w.goal, 64) {
+        return false;
+    }
     match word_there(rules, goal, terms, x) {
-        Word::And => through_and(rules, goal, terms, room, w, x, nest - 1, left),
-        Word::All => through_each(rules, goal, terms, room, w, x, nest - 1, left),
+        Word::And => fork(rules, goal, terms, room, w, x, nest - 1, left),
+        Word::All => each(rules, goal, terms, room, w, x, nest - 1, left),
         _ => false,
     }
 }
@@ -442,7 +509,7 @@ fn fill<'a>(
     fill(rules, goal, terms, room, w, p, k - 1, left)
 }
 
-// Variable v with one candidate after the other; if none does, it is unset again.
+// Variable v with one candidate after the other, but for those that an atom of the body leaves out; if none does, it is unset again.
 fn try_all<'a>(
     rules: &'a [u8],
     goal: &'a [u8],
@@ -455,9 +522,15 @@ fn try_all<'a>(
 ) -> bool
     ensures { λ r. ⌜ FillingEach (filesOf (now (rules .entry)) (now (goal .entry)) (now (terms .entry))) (now (room .entry)) (now (room .exit)) w p v left r ⌝ }
 {
+    let mut marks = [0u8; 256];
+    let narrowed = narrow_body(rules, goal, terms, room, w, p, v, &mut marks);
     let n = candidates(room);
     let mut i: u32 = 0;
     while i < n {
+        if is_left_out(narrowed, &marks, i) {
+            i += 1;
+            continue;
+        }
         if try_one(rules, goal, terms, room, w, p, v, i, left) {
             return true;
         }
@@ -495,7 +568,7 @@ fn try_one<'a>(
 }
 
 // Both clauses of an `and`, left before right.
-fn through_and<'a>(
+fn fork<'a>(
     rules: &'a [u8],
     goal: &'a [u8],
     terms: &'a [u8],
@@ -517,7 +590,7 @@ fn through_and<'a>(
 }
 
 // The clause of an `all`, with the first candidate for which a path through it ends well.
-fn through_each<'a>(
+fn each<'a>(
     rules: &'a [u8],
     goal: &'a [u8],
     terms: &'a [u8],

@@ -3,12 +3,5 @@ pub mod FrameLaws
 pub mod FileLaws
 pub mod NestLaws
 pub mod WhereLaws
-pub mod TermLaws
-pub mod SeeLaws
-pub mod EqualLaws
-pub mod RestLaws
 pub mod MoveLaws
-pub mod HighLaws
-pub mod TableLaws
-pub mod AtomLaws
 pub mod StartLaws

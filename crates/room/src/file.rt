@@ -10,7 +10,7 @@ ghost use lib.ListN.{getD, set, drop};
 ghost use Rattle.room.specs.Spot.{fileOf, sourceNumber, sourceOf, supposing, supposedIn};
 
 // The part of a slice from `at` on; past the end, nothing.
-pub(crate) fn from(s: &[u8], at: usize) -> &[u8]
+pub fn from(s: &[u8], at: usize) -> &[u8]
     ensures { λ r. ⌜ now r ≡ drop at (now (s .entry)) ⌝ }
 {
     if at <= s.len() {
@@ -37,7 +37,7 @@ pub fn part<'a>(
     }
 }
 
-pub(crate) fn source_number(which: Source) -> u32
+pub fn source_number(which: Source) -> u32
     ensures { λ r. ⌜ r ≡ sourceNumber which ⌝ }
 {
     match which {

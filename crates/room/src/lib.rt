@@ -1,32 +1,20 @@
-// The work room: what its words hold, bindings in frames, supposed clauses, the tables of rules and candidates, and whether two atoms are equal under their bindings
-// (document 01, "When a strip fits", "Sizes").
-mod equal;
+// The work room: its words, bindings in frames, the parts of the files that spots name, and supposed clauses (document 01, "When a strip fits", "Sizes").
 mod file;
 mod frame;
-mod moves;
-mod start;
-mod table;
 mod words;
 
-pub use equal::same_atoms;
-pub use equal::same_terms;
+pub use file::from;
 pub use file::part;
+pub use file::source_number;
 pub use file::suppose;
 pub use file::supposed;
 pub use frame::copy;
 pub use frame::push;
 pub use frame::variable;
-pub use moves::bound;
-pub use moves::further;
-pub use moves::past_part;
-pub use moves::plus;
-pub use moves::supposes;
-pub use moves::within;
-pub use moves::word_there;
-pub use start::clear;
-pub use start::fill_tables;
-pub use start::first_place;
-pub use table::may_use;
+pub use words::hold;
+pub use words::put;
+pub use words::word;
+pub use words::word_after;
 
 // Which file a formula or a term stands in.
 pub enum Source {

@@ -4,14 +4,14 @@ ghost use Prim.Native.Nat.{_+_, min};
 ghost use lib.ListN.{getD, set};
 ghost use Rattle.room.specs.Frame.{held};
 
-pub(crate) fn word(room: &[u32], i: usize) -> u32
+pub fn word(room: &[u32], i: usize) -> u32
     ensures { λ r. ⌜ r ≡ getD (now (room .entry)) i 0 ⌝ }
 {
     if i < room.len() { room[i] } else { 0 }
 }
 
 // The word so many after another.
-pub(crate) fn word_after(room: &[u32], base: usize, n: usize) -> u32
+pub fn word_after(room: &[u32], base: usize, n: usize) -> u32
     ensures { λ r. ⌜ r ≡ getD (now (room .entry)) (base + n) 0 ⌝ }
 {
     if base < room.len() {
@@ -23,7 +23,7 @@ pub(crate) fn word_after(room: &[u32], base: usize, n: usize) -> u32
     0
 }
 
-pub(crate) fn put(room: &mut [u32], i: usize, w: u32)
+pub fn put(room: &mut [u32], i: usize, w: u32)
     ensures { λ r. ⌜ now (room .exit) ≡ set (now (room .entry)) i w ⌝ }
 {
     if i < room.len() {
@@ -32,7 +32,7 @@ pub(crate) fn put(room: &mut [u32], i: usize, w: u32)
 }
 
 // What a word holds of a number.
-pub(crate) fn hold(n: usize) -> u32
+pub fn hold(n: usize) -> u32
     ensures { λ r. ⌜ r ≡ held n ⌝ }
 {
     if n < 0xffff_ffff {

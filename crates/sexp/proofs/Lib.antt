@@ -7,6 +7,7 @@ pub mod ScanLaws
 pub mod SkipLaws
 pub mod SpellLaws
 pub mod Spelt
+pub mod ShortLaws
 pub mod StandLaws
 pub mod TextLaws
 pub mod WordLaws

@@ -12,8 +12,25 @@ pub(crate) enum Reading {
     Stuck(usize),
 }
 
-// The string at `at`: its length, a colon, and that many octets.
+// The string at `at`: its length, a colon, and that many octets. Nearly every length has one digit, and is then read at once.
 pub(crate) fn verbatim(s: &[u8], at: usize) -> Reading
+    requires { ⌜ at ≤ length (now s) ⌝ }
+    ensures { λ r. ⌜ VerbatimAt (now (s .entry)) at r ⌝ }
+{
+    if 1 < s.len() - at && s[at + 1] == 58 && digit(s[at]) {
+        let count = (s[at] - 48) as usize;
+        if count < s.len() - at - 1 {
+            return Reading::Spans {
+                from: at + 2,
+                to: at + 2 + count,
+            };
+        }
+    }
+    verbatim_long(s, at)
+}
+
+// The same for a length of any number of digits.
+fn verbatim_long(s: &[u8], at: usize) -> Reading
     requires { ⌜ at ≤ length (now s) ⌝ }
     ensures { λ r. ⌜ VerbatimAt (now (s .entry)) at r ⌝ }
 {

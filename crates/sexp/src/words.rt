@@ -32,8 +32,32 @@ pub fn same(a: &[u8], b: &[u8]) -> bool
     true
 }
 
-// Whether a given word stands at an offset.
+// Whether a given word stands at an offset. One of fewer than ten octets is spelt as one digit, a colon and its octets: those bytes are compared.
 pub fn is_word(s: &[u8], at: usize, word: &[u8]) -> bool
+    ensures { λ r. ⌜ Tells r (Stands (now (s .entry)) at (str (now (word .entry)))) ⌝ }
+{
+    let count = word.len();
+    if 9 < count {
+        return is_word_long(s, at, word);
+    }
+    if s.len() < at {
+        return false;
+    }
+    if s.len() - at < count + 2 {
+        return false;
+    }
+    if s[at] != 48 + count as u8 {
+        return false;
+    }
+    if s[at + 1] != 58 {
+        return false;
+    }
+    let from = at + 2;
+    same(&s[from..from + count], word)
+}
+
+// The same for a word of any length.
+fn is_word_long(s: &[u8], at: usize, word: &[u8]) -> bool
     ensures { λ r. ⌜ Tells r (Stands (now (s .entry)) at (str (now (word .entry)))) ⌝ }
 {
     match plain(s, at) {
@@ -134,8 +158,18 @@ pub fn number_of(w: &[u8]) -> Value
     Value::Is(value)
 }
 
-// What the number at an offset says.
+// What the number at an offset says. Nearly every number has one digit, and is then read at once.
 pub fn number(s: &[u8], at: usize) -> Value
+    ensures { λ r. ⌜ NumberAt (now (s .entry)) at r ⌝ }
+{
+    if at < s.len() && 2 < s.len() - at && s[at] == 49 && s[at + 1] == 58 && digit(s[at + 2]) {
+        return Value::Is((s[at + 2] - 48) as usize);
+    }
+    number_long(s, at)
+}
+
+// The same for any number of digits.
+fn number_long(s: &[u8], at: usize) -> Value
     ensures { λ r. ⌜ NumberAt (now (s .entry)) at r ⌝ }
 {
     match plain(s, at) {

@@ -14,7 +14,7 @@ use Rattle.harrop.specs.Bindings.{Bindings, replacedAtom}
 use Rattle.room.specs.Frame.{held, bindingsIn, copied}
 use Rattle.room.specs.Spot.{sourceNumber, sourceOf, bindingsAt}
 use Rattle.room.specs.Table.{CandidatesIn}
-use Rattle.room.specs.Term.{AtomAt}
+use Rattle.equal.specs.Term.{AtomAt}
 use Rattle.room.specs.Where.{Files, plus}
 use Rattle.room.specs.declared.Spot.{Spot}
 use Rattle.room.specs.declared.Where.{Where}

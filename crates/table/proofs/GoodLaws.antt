@@ -13,7 +13,7 @@ use Rattle.harrop.proofs.SameLaws.{same-atoms-equal}
 use Rattle.room.specs.Frame.{bindingsIn}
 use Rattle.room.specs.Spot.{sourceOf, bindingsAt}
 use Rattle.room.specs.Table.{CandidatesIn}
-use Rattle.room.specs.Term.{AtomAt, SameAtoms}
+use Rattle.equal.specs.Term.{AtomAt, SameAtoms}
 use Rattle.room.specs.Where.{Files}
 use Rattle.room.specs.declared.Spot.{Spot}
 use Rattle.room.specs.declared.Where.{Where}
@@ -23,7 +23,7 @@ use Rattle.table.specs.Slots.{tableWord, Slot, slotSpot, countOf, markOf
 use Rattle.table.specs.Good.{Truth, Rises, Right, Good}
 use Rattle.table.specs.declared.Recalled.{Recalled}
 use Rattle.table.specs.declared.Recalled.the-variants.{Unknown, No, Yes}
-use Rattle.table.specs.Recall.{This, IsThis, Says, Recalls}
+use Rattle.table.specs.Recall.{This, IsThis, Says, Recalls, Empty}
 
 -- the words of a slot but its heights are the same: so are its spot and its bindings
 abbrev pub Entry : List ℕ → List ℕ → ℕ → Type 0
@@ -107,11 +107,9 @@ good-fewer b g at s S h l = g at s S h (omega arith)
 pub good-truth : {f : Files} {us : List Term} {T T′ : Truth} {m : ℕ} {room : List ℕ} → ((s p h : ℕ) (a : Atom) → s ≤ m → T′ s p h a ≡ T s p h a) → Good f us T m room → Good f us T′ m room
 good-truth e g at s S h l = right-truth (g at s S h l) (λ p q a. e s p q a l)
 
--- a table all of whose words are 0 is right
-pub good-zero : (f : Files) (us : List Term) (T : Truth) (m : ℕ) (room : List ℕ) → ((i : ℕ) → tableWord ≤ i → getD room i 0 ≡ 0) → Good f us T m room
-good-zero f us T m room z at s S h l =
-    let e = z (at + 3) (omega (arith, S .first)) in
-    absurd (omega arith)
+-- a table without an entry is right, whatever is true
+pub good-empty : (f : Files) (us : List Term) (T : Truth) (m : ℕ) (room : List ℕ) → Empty room → Good f us T m room
+good-empty f us T m room none′ at s S h l = let e = none′ at S in absurd (omega arith)
 
 module _ {f : Files} {room : List ℕ} {w : Where} {at : ℕ} (t : This f room w at) where
   pub this-slot : at % 16 ≡ 0 → Slot (length room) at

@@ -8,7 +8,7 @@ use lib.ListN.{length, getD}
 use Rattle.harrop.specs.Formula.{Term, Atom}
 use Rattle.harrop.specs.Bindings.{replacedAtom}
 use Rattle.room.specs.Spot.{bindingsAt}
-use Rattle.room.specs.Term.{AtomAt}
+use Rattle.equal.specs.Term.{AtomAt}
 use Rattle.room.specs.Where.{Files}
 use Rattle.table.specs.Slots.{Slot, slotSpot, countOf, markOf, parametersOf, failedAt, provedAt}
 

@@ -8,7 +8,7 @@ use Rattle.harrop.specs.Formula.{Term, Atom}
 use Rattle.harrop.specs.Bindings.{replacedAtom}
 use Rattle.room.specs.Spot.{bindingsAt}
 use Rattle.room.specs.Table.{CandidatesIn}
-use Rattle.room.specs.Term.{AtomAt, SameAtoms}
+use Rattle.equal.specs.Term.{AtomAt, SameAtoms}
 use Rattle.room.specs.Where.{Files}
 use Rattle.room.specs.declared.Spot.{Spot}
 use Rattle.room.specs.declared.Where.{Where}
@@ -62,17 +62,11 @@ Keeps f before after w height at found =
     (us : List Term) (T : Truth) (m : ℕ) (a : Atom) → at % 16 ≡ 0 → w .supposed ≤ m → Good f us T m before → CandidatesIn before (f .terms) us → AtomAt (f .rules) (f .goal) (f .terms) (w .goal) a
     → T (w .supposed) (w .parameters) height (replacedAtom us (bindingsAt before (w .goal)) a) ≡ found → Good f us T m after
 
--- the first n slots do not hold what was found under so many supposed clauses; each word is as it was, or was such a slot's
-pub data Emptied (before after : List ℕ) (supposed i : ℕ) : Type 0 where
-  same : getD after i 0 ≡ getD before i 0 → Emptied before after supposed i
-  gone : tableWord ≤ i → i % 16 ≡ 3 → getD after i 0 ≡ 0 → Emptied before after supposed i
-
-pub record Forgotten (before after : List ℕ) (supposed n : ℕ) : Type 0 where
-  pub long : length after ≡ length before
-  pub each : (i : ℕ) → Emptied before after supposed i
-  pub none : (at : ℕ) → Slot (length before) at → at < n → markOf after at ≡ supposed + 1 → ⊥
-
 -- forgotten: what is right up to m supposed clauses is right up to one more, whatever is true under that one
 abbrev pub Forgets : List ℕ → List ℕ → ℕ → Type 0
 Forgets before after supposed =
     (f : Files) (us : List Term) (T T′ : Truth) (m : ℕ) → supposed ≡ m + 1 → ((s p h : ℕ) (a : Atom) → s ≤ m → T′ s p h a ≡ T s p h a) → Good f us T m before → Good f us T′ (m + 1) after
+
+-- no slot holds anything: such a table is right, whatever is true
+abbrev pub Empty : List ℕ → Type 0
+Empty room = (at : ℕ) → Slot (length room) at → markOf room at ≡ 0

@@ -4,8 +4,8 @@ use crate::slot::inside;
 use crate::slot::spot;
 use crate::words::marks;
 use crate::words::word;
+use equal::same_atoms;
 use room::Where;
-use room::same_atoms;
 ghost use Rattle.room.specs.Where.{filesOf};
 ghost use Rattle.table.specs.Recall.{IsThis, Recalls};
 

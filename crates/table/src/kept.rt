@@ -6,16 +6,16 @@ use crate::words::marks;
 use crate::words::put;
 use crate::words::source_number;
 use crate::words::word;
+use places::plus;
 use room::Spot;
 use room::Where;
 use room::copy;
-use room::plus;
 ghost use mathlib.Core.Path.{_≡_};
 ghost use Prim.Native.Nat.{_+_, _≤_};
 ghost use lib.ListN.{length};
 ghost use Rattle.room.specs.Where.{filesOf};
 ghost use Rattle.table.specs.Slots.{entered, noted, emptied};
-ghost use Rattle.table.specs.Recall.{FitsSlot, TableOnly, Keeps, Forgotten, Forgets};
+ghost use Rattle.table.specs.Recall.{FitsSlot, TableOnly, Keeps, Forgets, Empty};
 
 // Whether an atom's numbers fit a slot's words, and its bindings stand below the table.
 fn fits(x: Spot, supposed: usize, parameters: usize, height: usize) -> bool
@@ -24,7 +24,7 @@ fn fits(x: Spot, supposed: usize, parameters: usize, height: usize) -> bool
     if 8 < x.count {
         return false;
     }
-    if 3704 < x.base {
+    if 4472 < x.base {
         return false;
     }
     if 0xffff_ffff < x.at {
@@ -107,9 +107,21 @@ pub fn forget(room: &mut [u32], supposed: usize)
     ensures only { λ _. ⌜ TableOnly (now (room .entry)) (now (room .exit)) ⌝ }
     ensures gone { λ _. ⌜ Forgets (now (room .entry)) (now (room .exit)) supposed ⌝ }
 {
-    let mut at: usize = 3712;
+    let mut at: usize = 4480;
     while inside(room.len(), at) {
         empty(room, at, supposed);
+        at += 16;
+    }
+}
+
+// All slots emptied, as when a search begins. What the words held before does not matter.
+pub fn empty_all(room: &mut [u32])
+    ensures only { λ _. ⌜ TableOnly (now (room .entry)) (now (room .exit)) ⌝ }
+    ensures none { λ _. ⌜ Empty (now (room .exit)) ⌝ }
+{
+    let mut at: usize = 4480;
+    while inside(room.len(), at) {
+        put(room, at, 3, 0);
         at += 16;
     }
 }

@@ -5,6 +5,7 @@ mod slot;
 mod words;
 
 pub use asked::recall;
+pub use kept::empty_all;
 pub use kept::forget;
 pub use kept::keep;
 pub use slot::slot_for;

@@ -1,8 +1,8 @@
 // The slots of the table: which one a key has, whether a word begins one, and the spot of its atom.
 use crate::words::source_of;
 use crate::words::word;
+use places::plus;
 use room::Spot;
-use room::plus;
 ghost use mathlib.Core.Path.{_≡_};
 ghost use mathlib.Core.Bool.{_&&_};
 ghost use Prim.Native.Nat.{_+_, _%_, _≤_};
@@ -15,17 +15,17 @@ pub fn slot_for(room: &[u32], key: usize) -> usize
     ensures { λ r. ⌜ (r ≡ slotFor (length (now (room .entry))) key) × (r % 16 ≡ 0) ⌝ }
 {
     let words = room.len();
-    if words < 3728 {
+    if words < 4496 {
         return 0;
     }
-    3712 + 16 * (key % ((words - 3712) / 16))
+    4480 + 16 * (key % ((words - 4480) / 16))
 }
 
 // Whether 16 words of the table are there from a word on.
 pub(crate) fn inside(words: usize, at: usize) -> bool
     ensures { λ r. ⌜ r ≡ leb tableWord at && leb (at + 16) words ⌝ }
 {
-    if at < 3712 {
+    if at < 4480 {
         return false;
     }
     if words < 16 {

@@ -4,21 +4,20 @@ use Prim.Native.Nat.{ℕ, _+_, _≤_, _<_}
 use mathlib.Core.Path.{_≡_, refl, sym, _∙_, ap, subst}
 use mathlib.Core.Bool.{Bool, true, false, _&&_, _||_, false≢true}
 use mathlib.Core.List.{List}
-use mathlib.Core.Option.{none, some}
+use mathlib.Core.Option.{some}
 use native.Mathlib.Omega.{arith}
-use lib.Dec.{eqb, ltb}
+use lib.Dec.{eqb}
 use lib.ListN.{length, getD, drop, getElem?, length-drop}
 use lib.Seq.{drop-drop}
-use borrow.Author.Tests.{eqb-true, eqb-false, ltb-true, ltb-false}
+use borrow.Author.Tests.{eqb-true, eqb-false, ltb-true}
 use Rattle.basics.specs.Choice.{both-true}
 use Rattle.basics.specs.Tells.{Tells, told-yes, told-no}
 use Rattle.basics.specs.Text.{octets}
-use Rattle.harrop.specs.declared.Binding.{Binding}
 use Rattle.harrop.specs.declared.Binding.the-variants.{Candidate}
 use Rattle.harrop.specs.Formula.{Name, Term, Terms, Atom}
 use Rattle.harrop.specs.Bindings.{Bindings, meant, valueOf, replaced, replaceds, replacedAtom, sameName, sameTerm, sameTerms, sameAtom}
 use Rattle.harrop.proofs.ListLaws.{member-below, below-member}
-use Rattle.harrop.proofs.SameLaws.{same-terms-equal, equal-terms-same}
+use Rattle.harrop.proofs.SameLaws.{same-terms-equal}
 use Rattle.sexp.specs.declared.skip.After.{After}
 use Rattle.sexp.specs.declared.skip.After.the-variants as A
 use Rattle.sexp.specs.declared.words.Value.{Value}
@@ -31,26 +30,24 @@ use Rattle.sexp.proofs.StandLaws.{stands-once, first-stands, others-stand, none
 use Rattle.packet.specs.Barred.{termOk, termsOk}
 use Rattle.packet.specs.File.{mostBytes}
 use Rattle.packet.specs.Written.{termSexp, termSexps, atomSexp}
-use Rattle.room.specs.Frame.{boundTo}
 use Rattle.room.specs.Layout.{levels}
 use Rattle.room.specs.Spot.{bindingsAt}
 use Rattle.room.specs.Table.{CandidatesIn}
-use Rattle.room.specs.Term.{AtomAt, TermAt, SameTerms}
+use Rattle.equal.specs.Term.{AtomAt, TermAt, SameTerms}
 use Rattle.room.specs.Where.{Files, plus, further}
-use Rattle.room.specs.declared.Source.the-variants as Source
 use Rattle.room.specs.declared.Spot.{Spot}
-use Rattle.room.proofs.FrameLaws.{bound-means}
 use Rattle.room.proofs.NestLaws.{replaced-nests}
-use Rattle.room.proofs.SeeLaws.{number-read, unread}
-use Rattle.room.proofs.TermLaws.{part-stands, termWord, term-word, term-text, atom-text, atom-rest, text-once, names-differ, closed-stays}
+use Rattle.equal.proofs.SeeLaws.{number-read, unread}
+use Rattle.equal.proofs.TermLaws.{part-stands, termWord, term-word, term-text, atom-text, atom-rest, text-once, names-differ}
 use Rattle.room.proofs.WhereLaws.{plus-inside}
 use Rattle.heads.specs.Predicate.{bytesAt}
 use Rattle.mentions.specs.Mentions.{insides, mentionsTerm, mentionsTerms}
 use Rattle.mentions.specs.Open.{isOpen, asked, Becomes}
+use Rattle.keys.proofs.WalkLaws.{candidate-meant, no-f-v, no-e-v}
 use Rattle.unset.specs.declared.Forced.{Forced}
 use Rattle.unset.specs.declared.Forced.the-variants as F
 use Rattle.unset.specs.Unset.{Holding, Small, MayBe, ForcedAs, Forces}
-use Rattle.unset.specs.Head.{DiffersAt, candidateSpot, LowestOf, CandidateOf, LowestAt, CandidateAt, isVariable, VariableAt}
+use Rattle.unset.specs.Head.{DiffersAt, NoneOf, CandidateOf, CandidateAt, isVariable, VariableAt}
 
 neither : (a b : Bool) → a || b ≡ false → (a ≡ false) × (b ≡ false)
 neither true b e = absurd (false≢true (sym e))
@@ -76,31 +73,32 @@ unfolding asked
 settled us own bs ds B t e = term-settled us (insides 0 (asked own bs false 0)) bs ds (λ i q. B i (neither (isOpen own bs i) false q .0)) t e
 
 -- a test that is not a yes is a no, and so is one whose yes would bring another
-never : (a : Bool) → (a ≡ true → ⊥) → a ≡ false
+pub never : (a : Bool) → (a ≡ true → ⊥) → a ≡ false
 never true h = absurd (h refl)
 never false h = refl
 
 refuted : (a b : Bool) → (a ≡ true → b ≡ true) → b ≡ false → a ≡ false
 refuted a b h e = never a (λ q. false≢true (sym e ∙ h q))
 
--- only a variable has the word of one
-no-f-v : octets "f" ≡ octets "v" → ⊥
-no-f-v z = let z′ : _≡_ {A = ℕ} 118 102 = cc in omega arith
-
-no-e-v : octets "e" ≡ octets "v" → ⊥
-no-e-v z = let z′ : _≡_ {A = ℕ} 118 101 = cc in omega arith
-
+-- a term that is variable v
 is-this : (v : ℕ) (t : Term) → isVariable v t ≡ true → t ≡ Term.v v
 is-this v (Term.v n) e = ap Term.v (eqb-true n v e)
 is-this v (Term.f g ts) e = absurd (false≢true e)
 is-this v (Term.e m) e = absurd (false≢true e)
 
--- a variable that becomes a term, whatever frame makes the head the atom, becomes the candidate that is the term
+-- no candidate before the lowest that is a term means the same
+lowest-means : (us : List Term) (w : Term) (n : ℕ) → getElem? us n ≡ some w → NoneOf us n w → (i : ℕ) → i < n → meant us (Candidate i) ≡ meant us (Candidate n) → ⊥
+lowest-means us w n m low i l e =
+    let (t, k) = below-member us i (omega (arith, member-below us n w m)) in
+    low i l (k ∙ ap some (candidate-meant us i t k ∙ e ∙ sym (candidate-meant us n w m)))
+
+-- a variable that becomes a term, whatever frame makes the head the atom, becomes the lowest candidate that is the term
 forced-as : (us : List Term) (bs : Bindings) (b a : Atom) (v : ℕ) (w : Term) → ((ds : Bindings) → sameAtom (replacedAtom us ds b) (replacedAtom us bs a) ≡ true → valueOf us ds v ≡ w)
     → (r : Forced) → CandidateOf us w r → ForcedAs us bs b a v r
 forced-as us bs b a v w h F.Nothing o = tt
-forced-as us bs b a v w h (F.Candidate n) o = λ ds e. h ds e ∙ o
-forced-as us bs b a v w h F.Never o = λ ds n t m e. never (sameAtom (replacedAtom us ds b) (replacedAtom us bs a)) (λ z. o n (m ∙ ap some (sym e ∙ h ds z)))
+forced-as us bs b a v w h (F.Candidate n) o = record { gives = λ ds e. h ds e ∙ candidate-meant us n w (o .0); lowest = lowest-means us w n (o .0) (o .1) }
+forced-as us bs b a v w h F.Never o = λ ds n t m e.
+    never (sameAtom (replacedAtom us ds b) (replacedAtom us bs a)) (λ z. o n (member-below us n t m) (m ∙ ap some (sym e ∙ h ds z)))
 
 -- a part of a file
 part-small : {s : List ℕ} (file : List ℕ) (at : ℕ) → s ≡ drop at file → length file ≤ mostBytes → length s ≤ mostBytes
@@ -243,7 +241,7 @@ pub may-be-yes : (f : Files) (room : List ℕ) (x y : Spot) (own : ℕ) → MayB
 may-be-yes f room x y own us b a S C X Y e ds B = absurd (false≢true (sym e))
 
 pub forces-nothing : (f : Files) (room : List ℕ) (x y : Spot) (v : ℕ) → Forces f room x y v F.Nothing
-forces-nothing f room x y v us b a S C X Y = tt
+forces-nothing f room x y v us b a S C K X Y = tt
 
 module _ (f : Files) (room : List ℕ) (x y : Spot) {s t : List ℕ} (ex : s ≡ drop (x .at) (bytesAt f x)) (ey : t ≡ drop (y .at) (bytesAt f y)) where
   -- other names
@@ -341,75 +339,10 @@ module _ (f : Files) (room : List ℕ) (x y : Spot) {s t : List ℕ} (ex : s ≡
 
       -- the head's is the variable: it becomes the atom's
       pub left-forced : (v : ℕ) {r : Bool} {o : Spot} (z : Forced) → VariableAt s p v r → r ≡ true → o ≡ further y q → CandidateAt f room o z → Forces f room x y v z
-      left-forced v z at i j K us b a S C X Y =
+      left-forced v z at i j H us b a S C K X Y =
           let l = firsts us b a (L us b a S C X Y) in
           let ok = both-true (termOk false (x .count) (l .u)) (termsOk false (x .count) (l .one)) (l .here .ok) .0 in
           let it = is-this v (l .u) (sym (at (l .u) (x .count) (first-stands (l .here .stands)) (part-small (bytesAt f x) (x .at) ex (S (x .source))) (l .here .few) ok) ∙ i) in
-          let K′ = subst (λ (n : Spot). CandidateAt f room n z) j K us (l .w) C (term-there f y (l .w) (l .two) S ey refl (l .there)) in
+          let H′ = subst (λ (n : Spot). CandidateAt f room n z) j H us (l .w) C K (term-there f y (l .w) (l .two) S ey refl (l .there)) in
           forced-as us (bindingsAt room y) b a v (replaced us (bindingsAt room y) (l .w))
-          (λ ds m. sym (ap (replaced us ds) it) ∙ same-terms-equal (replaced us ds (l .u)) (replaced us (bindingsAt room y) (l .w)) (l .implied ds m .0)) z K′
-
--- a spot of the terms file with no frame
-abbrev pub termsSpot : ℕ → Spot
-termsSpot at = record { source = Source.Terms; at = at; base = 0; count = 0 }
-
--- the candidates, one after the other: none of the first i is the term at the spot
-abbrev pub NoneBelow : Files → List ℕ → Spot → ℕ → Type 0
-NoneBelow f room y i =
-    (us : List Term) (u : Term) → CandidatesIn room (f .terms) us → TermAt (f .rules) (f .goal) (f .terms) y u → (j : ℕ) → j < i → getElem? us j ≡ some (replaced us (bindingsAt room y) u) → ⊥
-
-module _ (f : Files) (room : List ℕ) (y : Spot) where
-  pub none-first : NoneBelow f room y 0
-  none-first us u C T j l e = absurd (omega arith)
-
-  pub none-at-all : {n i : ℕ} → n ≡ getD room 257 0 → n ≤ i → NoneBelow f room y i → LowestAt f room y F.Never
-  none-at-all q l N us u C T j e = N us u C T j (omega (arith, member-below us j (replaced us (bindingsAt room y) u) e, C .counted)) e
-
-  module _ (i : ℕ) {z : Spot} {r : Bool} (q : z ≡ candidateSpot room i) (M : SameTerms (f .rules) (f .goal) (f .terms) room z y 128 r) where
-    -- the comparison is of candidate i
-    compared : (us : List Term) (u : Term) → CandidatesIn room (f .terms) us → TermAt (f .rules) (f .goal) (f .terms) y u → (t : Term) → getElem? us i ≡ some t → r ≡ sameTerm t (replaced us (bindingsAt room y) u)
-    compared us u C T t e =
-        let here : TermAt (f .rules) (f .goal) (f .terms) (candidateSpot room i) t = record { stands = C .starts i t e; shallow = C .shallow i t e; few = omega arith; holds = true; ok = C .closed i t e } in
-        let n = replaced-nests us (C .shallow) (bindingsAt room (candidateSpot room i)) t in
-        let M′ = subst (λ (v : Spot). SameTerms (f .rules) (f .goal) (f .terms) room v y 128 r) q M in
-        M′ us t u C here T (omega (arith, n, C .shallow i t e))
-        ∙ ap (λ (v : Term). sameTerm v (replaced us (bindingsAt room y) u)) (closed-stays us (bindingsAt room (candidateSpot room i)) true t (C .closed i t e))
-
-    pub lowest-found : {n : ℕ} → n ≡ getD room 257 0 → i < n → r ≡ true → NoneBelow f room y i → LowestAt f room y (F.Candidate i)
-    lowest-found k l o N us u C T =
-        let (t, e) = below-member us i (omega (arith, C .counted)) in
-        (e ∙ ap some (same-terms-equal t (replaced us (bindingsAt room y) u) (sym (compared us u C T t e) ∙ o)), N us u C T)
-
-    pub none-next : r ≡ false → NoneBelow f room y i → NoneBelow f room y (i + 1)
-    none-next o N us u C T j l e = go (ltb j i) refl
-      where
-        go : (b : Bool) → ltb j i ≡ b → ⊥
-        go true h = N us u C T j (ltb-true j i h) e
-        go false h =
-            let k : j ≡ i = omega (arith, ltb-false j i h, l) in
-            let w = replaced us (bindingsAt room y) u in
-            let e′ = subst (λ (n : ℕ). getElem? us n ≡ some w) k e in
-            false≢true (sym o ∙ compared us u C T w e′ ∙ equal-terms-same w w refl)
-
-  -- the lowest candidate that is the term is one that is
-  pub lowest-serves : (r : Forced) → LowestAt f room y r → CandidateAt f room y r
-  lowest-serves r h us u C T = go r (h us u C T)
-    where
-      go : (r : Forced) → LowestOf us (replaced us (bindingsAt room y) u) r → CandidateOf us (replaced us (bindingsAt room y) u) r
-      go F.Nothing o = o
-      go (F.Candidate c) o = rw (o .0, meant) refl
-      go F.Never o = o
-
-  -- the candidate that the variable at the spot is bound to
-  pub bound-serves : {s : List ℕ} {r : Bool} {v : Value} {j c : ℕ} {b : Binding} → s ≡ drop (y .at) (bytesAt f y) → Tells r (Stands s 1 (str (octets "v"))) → r ≡ true → NumberAt s 4 v → v ≡ Val.Is j
-      → b ≡ boundTo (bindingsAt room y) j → b ≡ Candidate c → CandidateAt f room y (F.Candidate c)
-  bound-serves {s} {r} {v} {j} {c} {b} e h i n k q o us u C T = go u T (subst (λ (l : List ℕ). Stands l 0 (termSexp u)) (sym e) (part-stands (T .stands)))
-    where
-      go : (u : Term) → TermAt (f .rules) (f .goal) (f .terms) y u → Stands s 0 (termSexp u) → replaced us (bindingsAt room y) u ≡ meant us (Candidate c)
-      go (Term.v m) T g =
-          let l = ltb-true m (y .count) (T .ok) in
-          let z = number-read m v (term-text (Term.v m) g) (omega (arith, l, T .few)) n in
-          let same : j ≡ m = cc in
-          ap (valueOf us (bindingsAt room y)) (sym same) ∙ sym (bound-means us (bindingsAt room y) j) ∙ ap (meant us) (sym q ∙ o)
-      go (Term.f g′ ts) T g = absurd (no-f-v (text-once (term-word (Term.f g′ ts) g) (told-yes i h)))
-      go (Term.e m) T g = absurd (no-e-v (text-once (term-word (Term.e m) g) (told-yes i h)))
+          (λ ds m. sym (ap (replaced us ds) it) ∙ same-terms-equal (replaced us ds (l .u)) (replaced us (bindingsAt room y) (l .w)) (l .implied ds m .0)) z H′

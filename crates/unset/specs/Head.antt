@@ -6,9 +6,8 @@ use mathlib.Core.List.{List}
 use mathlib.Core.Option.{some}
 use lib.Dec.{eqb}
 use lib.ListN.{length, getD, getElem?}
-use Rattle.harrop.specs.declared.Binding.the-variants.{Candidate}
 use Rattle.harrop.specs.Formula.{Term}
-use Rattle.harrop.specs.Bindings.{Bindings, meant, replaced, sameTerm}
+use Rattle.harrop.specs.Bindings.{Bindings, replaced, sameTerm}
 use Rattle.sexp.specs.Sexp.{Stands}
 use Rattle.packet.specs.Written.{termSexp}
 use Rattle.packet.specs.Barred.{termOk}
@@ -16,11 +15,13 @@ use Rattle.packet.specs.File.{mostBytes}
 use Rattle.room.specs.Layout.{levels, candidateWord}
 use Rattle.room.specs.Spot.{bindingsAt}
 use Rattle.room.specs.Table.{CandidatesIn}
-use Rattle.room.specs.Term.{TermAt}
+use Rattle.equal.specs.Term.{TermAt}
 use Rattle.room.specs.Where.{Files}
 use Rattle.room.specs.declared.Source.the-variants as Source
 use Rattle.room.specs.declared.Spot.{Spot}
 use Rattle.mentions.specs.Open.{Becomes}
+use Rattle.keys.specs.Key.{termKey}
+use Rattle.keys.specs.Keys.{CandidateKeys}
 use Rattle.unset.specs.declared.Forced.{Forced}
 use Rattle.unset.specs.declared.Forced.the-variants as F
 
@@ -34,24 +35,44 @@ DiffersAt f room x y own r =
 abbrev pub candidateSpot : List ℕ → ℕ → Spot
 candidateSpot room i = record { source = Source.Terms; at = getD room (candidateWord i) 0; base = 0; count = 0 }
 
--- the lowest candidate that is a term, or none is
-abbrev pub LowestOf : List Term → Term → Forced → Type 0
-LowestOf us w F.Nothing = ⊥
-LowestOf us w (F.Candidate c) = (getElem? us c ≡ some w) × ((i : ℕ) → i < c → getElem? us i ≡ some w → ⊥)
-LowestOf us w F.Never = (i : ℕ) → getElem? us i ≡ some w → ⊥
+-- what is said of the term w at a spot, its variables replaced, that has a number, where the tables of candidates and of their numbers are right
+abbrev pub Numbered : Files → List ℕ → Spot → ℕ → (List Term → Term → Type 0) → Type 0
+Numbered f room y key says =
+    (us : List Term) (u : Term) → CandidatesIn room (f .terms) us → CandidateKeys room us → TermAt (f .rules) (f .goal) (f .terms) y u
+    → key ≡ termKey (replaced us (bindingsAt room y) u) → says us (replaced us (bindingsAt room y) u)
 
--- a candidate that is a term, or none is
+-- the answer is whether candidate i is that term
+abbrev pub IsCandidate : Files → List ℕ → Spot → ℕ → ℕ → Bool → Type 0
+IsCandidate f room y key i r = Numbered f room y key (λ us w. (t : Term) → getElem? us i ≡ some t → r ≡ sameTerm t w)
+
+-- none of the first n candidates is a term
+abbrev pub NoneOf : List Term → ℕ → Term → Type 0
+NoneOf us n w = (i : ℕ) → i < n → getElem? us i ≡ some w → ⊥
+
+-- the lowest of the first n candidates that is a term; n where none of them is
+pub record LowestOf (us : List Term) (n : ℕ) (w : Term) (c : ℕ) : Type 0 where
+  pub few : c ≤ n
+  pub is : c < n → getElem? us c ≡ some w
+  pub lowest : NoneOf us c w
+
+abbrev pub LowestAt : Files → List ℕ → Spot → ℕ → ℕ → ℕ → Type 0
+LowestAt f room y key n r = Numbered f room y key (λ us w. n ≤ length us → LowestOf us n w r)
+
+-- the candidate that is the term at a spot, or a number that no candidate has
+abbrev pub BoundTo : Files → List ℕ → Spot → ℕ → Type 0
+BoundTo f room y c =
+    (us : List Term) (u : Term) → CandidatesIn room (f .terms) us → TermAt (f .rules) (f .goal) (f .terms) y u → c < length us → getElem? us c ≡ some (replaced us (bindingsAt room y) u)
+
+-- the lowest candidate that is a term, or none is
 abbrev pub CandidateOf : List Term → Term → Forced → Type 0
 CandidateOf us w F.Nothing = ⊥
-CandidateOf us w (F.Candidate c) = w ≡ meant us (Candidate c)
-CandidateOf us w F.Never = (i : ℕ) → getElem? us i ≡ some w → ⊥
+CandidateOf us w (F.Candidate c) = (getElem? us c ≡ some w) × NoneOf us c w
+CandidateOf us w F.Never = NoneOf us (length us) w
 
 -- the same of the term at a spot, its variables replaced
-abbrev pub LowestAt : Files → List ℕ → Spot → Forced → Type 0
-LowestAt f room y r = (us : List Term) (u : Term) → CandidatesIn room (f .terms) us → TermAt (f .rules) (f .goal) (f .terms) y u → LowestOf us (replaced us (bindingsAt room y) u) r
-
 abbrev pub CandidateAt : Files → List ℕ → Spot → Forced → Type 0
-CandidateAt f room y r = (us : List Term) (u : Term) → CandidatesIn room (f .terms) us → TermAt (f .rules) (f .goal) (f .terms) y u → CandidateOf us (replaced us (bindingsAt room y) u) r
+CandidateAt f room y r =
+    (us : List Term) (u : Term) → CandidatesIn room (f .terms) us → CandidateKeys room us → TermAt (f .rules) (f .goal) (f .terms) y u → CandidateOf us (replaced us (bindingsAt room y) u) r
 
 -- whether a term is variable v
 abbrev pub isVariable : ℕ → Term → Bool

@@ -2,13 +2,14 @@
 // An argument of the head that holds an unset variable decides nothing; any other is compared as it stands.
 use crate::Forced;
 use crate::variables::holds;
+use equal::same_terms;
 use harrop::Binding;
+use keys::term_key;
+use places::further;
+use places::plus;
 use room::Source;
 use room::Spot;
-use room::further;
 use room::part;
-use room::plus;
-use room::same_terms;
 use room::variable;
 use sexp::After;
 use sexp::Value;
@@ -17,12 +18,11 @@ use sexp::is_word;
 use sexp::number;
 use sexp::past;
 use sexp::same_text;
-ghost use Prim.Native.Nat.{_+_};
 ghost use mathlib.Core.Path.{_≡_};
 ghost use lib.ListN.{getD};
 ghost use Rattle.room.specs.Where.{filesOf};
 ghost use Rattle.unset.specs.Unset.{MayBe, Forces};
-ghost use Rattle.unset.specs.Head.{DiffersAt, candidateSpot, LowestAt, CandidateAt, VariableAt};
+ghost use Rattle.unset.specs.Head.{DiffersAt, candidateSpot, IsCandidate, LowestAt, BoundTo, CandidateAt, VariableAt};
 
 // Whether the term at the first spot differs for good from the term at the second: it holds no unset variable, and they are not the same.
 fn differs<'a>(
@@ -90,31 +90,18 @@ pub fn may_be<'a>(
     closes(t, q)
 }
 
-// How many candidates there are.
-fn candidates(room: &[u32]) -> u32
-    ensures { λ r. ⌜ r ≡ getD (now (room .entry)) 257 0 ⌝ }
+// A word of the room; past its end, 0.
+fn word(room: &[u32], i: usize) -> u32
+    ensures { λ r. ⌜ r ≡ getD (now (room .entry)) i 0 ⌝ }
 {
-    if 257 < room.len() { room[257] } else { 0 }
-}
-
-// Where candidate i starts in its file.
-fn start_of(room: &[u32], i: usize) -> u32
-    ensures { λ r. ⌜ r ≡ getD (now (room .entry)) (258 + i) 0 ⌝ }
-{
-    if 258 < room.len() {
-        let left = room.len() - 258;
-        if i < left {
-            return room[258 + i];
-        }
-    }
-    0
+    if i < room.len() { room[i] } else { 0 }
 }
 
 // Where candidate i stands.
-fn candidate_spot(room: &[u32], i: usize) -> Spot
+fn candidate_spot(room: &[u32], i: u32) -> Spot
     ensures { λ r. ⌜ r ≡ candidateSpot (now (room .entry)) i ⌝ }
 {
-    let at = start_of(room, i) as usize;
+    let at = word(room, 258 + i as usize) as usize;
     Spot {
         source: Source::Terms,
         at: at,
@@ -123,30 +110,65 @@ fn candidate_spot(room: &[u32], i: usize) -> Spot
     }
 }
 
-// The lowest candidate that is the term at a spot.
-fn lowest<'a>(rules: &'a [u8], goal: &'a [u8], terms: &'a [u8], room: &[u32], y: Spot) -> Forced
-    ensures { λ r. ⌜ LowestAt (filesOf (now (rules .entry)) (now (goal .entry)) (now (terms .entry))) (now (room .entry)) y r ⌝ }
+// Whether candidate i is the term at a spot that has this number. A candidate with another number is another term, so bytes are compared only where the numbers agree.
+fn is_candidate<'a>(
+    rules: &'a [u8],
+    goal: &'a [u8],
+    terms: &'a [u8],
+    room: &[u32],
+    y: Spot,
+    key: u32,
+    i: u32,
+) -> bool
+    ensures { λ r. ⌜ IsCandidate (filesOf (now (rules .entry)) (now (goal .entry)) (now (terms .entry))) (now (room .entry)) y key i r ⌝ }
 {
-    let n = candidates(room);
+    if word(room, 3456 + i as usize) != key {
+        return false;
+    }
+    same_terms(rules, goal, terms, room, candidate_spot(room, i), y, 128)
+}
+
+// The lowest of the first n candidates that is the term at a spot that has this number; n if none of them is.
+fn lowest<'a>(
+    rules: &'a [u8],
+    goal: &'a [u8],
+    terms: &'a [u8],
+    room: &[u32],
+    y: Spot,
+    key: u32,
+    n: u32,
+) -> u32
+    ensures { λ r. ⌜ LowestAt (filesOf (now (rules .entry)) (now (goal .entry)) (now (terms .entry))) (now (room .entry)) y key n r ⌝ }
+{
     let mut i: u32 = 0;
     while i < n {
-        if same_terms(
-            rules,
-            goal,
-            terms,
-            room,
-            candidate_spot(room, i as usize),
-            y,
-            128,
-        ) {
-            return Forced::Candidate(i);
+        if is_candidate(rules, goal, terms, room, y, key, i) {
+            return i;
         }
         i += 1;
     }
-    Forced::Never
+    n
 }
 
-// The candidate that the term at a spot is: the one that it is bound to, if it is a variable that is bound to one, else the lowest.
+// The candidate that the variable at a spot is bound to; where no such variable stands there, a number that no candidate has.
+fn bound_to<'a>(rules: &'a [u8], goal: &'a [u8], terms: &'a [u8], room: &[u32], y: Spot) -> u32
+    ensures { λ r. ⌜ BoundTo (filesOf (now (rules .entry)) (now (goal .entry)) (now (terms .entry))) (now (room .entry)) y r ⌝ }
+{
+    let source = y.source;
+    let t = part(rules, goal, terms, source, y.at);
+    if !is_word(t, 1, b"v") {
+        return 0xffff_ffff;
+    }
+    let Value::Is(j) = number(t, 4) else {
+        return 0xffff_ffff;
+    };
+    match variable(room, y.base, y.count, j) {
+        Binding::Candidate(c) => c,
+        Binding::Parameter(_) => 0xffff_ffff,
+    }
+}
+
+// The lowest candidate that is the term at a spot. If that is a variable bound to a candidate, only those before the candidate are asked.
 fn candidate_at<'a>(
     rules: &'a [u8],
     goal: &'a [u8],
@@ -156,18 +178,18 @@ fn candidate_at<'a>(
 ) -> Forced
     ensures { λ r. ⌜ CandidateAt (filesOf (now (rules .entry)) (now (goal .entry)) (now (terms .entry))) (now (room .entry)) y r ⌝ }
 {
-    let source = y.source;
-    let t = part(rules, goal, terms, source, y.at);
-    if !is_word(t, 1, b"v") {
-        return lowest(rules, goal, terms, room, y);
+    let n = word(room, 257);
+    let c = bound_to(rules, goal, terms, room, y);
+    if c < n {
+        let key = word(room, 3456 + c as usize);
+        return Forced::Candidate(lowest(rules, goal, terms, room, y, key, c));
     }
-    let Value::Is(j) = number(t, 4) else {
-        return lowest(rules, goal, terms, room, y);
-    };
-    let Binding::Candidate(c) = variable(room, y.base, y.count, j) else {
-        return lowest(rules, goal, terms, room, y);
-    };
-    Forced::Candidate(c)
+    let key = term_key(rules, goal, terms, room, y);
+    let i = lowest(rules, goal, terms, room, y, key, n);
+    if i < n {
+        return Forced::Candidate(i);
+    }
+    Forced::Never
 }
 
 // Whether variable v stands at an offset.

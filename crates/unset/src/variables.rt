@@ -1,7 +1,7 @@
 // Whether an expression holds a variable that is unset in a frame, or one particular variable.
 use harrop::Binding;
+use places::plus;
 use room::Spot;
-use room::plus;
 use room::variable;
 use sexp::After;
 use sexp::Value;

@@ -22,7 +22,7 @@ use Rattle.packet.specs.Barred.{atomOk, goalOk, clauseOk}
 use Rattle.packet.specs.Offset.{width, offsetOf}
 use Rattle.room.specs.Layout.{levels, stack}
 use Rattle.room.specs.Spot.{fileOf, bindingsAt}
-use Rattle.room.specs.Term.{AtomAt, SameAtoms}
+use Rattle.equal.specs.Term.{AtomAt, SameAtoms}
 use Rattle.room.specs.declared.Spot.{Spot}
 use Rattle.room.specs.declared.Where.{Where}
 use Rattle.room.proofs.FrameLaws.{frame-length}

@@ -18,7 +18,7 @@ use Rattle.room.specs.Layout.{levels, stack}
 use Rattle.room.specs.Frame.{bindingWord, held, bindingsIn}
 use Rattle.room.proofs.FrameLaws.{frame-pushed, push-kept, kept-below}
 use Rattle.room.proofs.NestLaws.{clause-nests}
-use Rattle.room.proofs.TableLaws.{table-allowed}
+use Rattle.start.proofs.TableLaws.{table-allowed}
 use Rattle.room.proofs.WhereLaws.{booked-kept, push-keeps}
 use Rattle.uses.specs.Walk.{Files, Booked}
 use Rattle.uses.specs.Use.{Left, Inner, Bound, Turns, Small, mayUse, Binds, Following, Ending, Reaches, Followed}

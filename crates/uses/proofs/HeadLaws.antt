@@ -13,8 +13,8 @@ use Rattle.sexp.specs.Sexp.{Sexp, Sexps, Stands, StandsAll, spell, spells, nest
 use Rattle.sexp.proofs.StandLaws.{members-stand, first-stands, others-stand, list-length, cons-length}
 use Rattle.packet.specs.declared.Word.{Word}
 use Rattle.packet.specs.Table.{wordOf, rank}
-use Rattle.packet.specs.WordAt.{WordAt}
-use Rattle.packet.proofs.WordLaws.{word-is}
+use Rattle.reader.specs.WordAt.{WordAt}
+use Rattle.reader.proofs.WordLaws.{word-is}
 use Rattle.packet.specs.Written.{word, one, two, atomSexp, goalSexp, stripSexp}
 use mathlib.Core.Option.{Option, none, some}
 use lib.Dec.{eqb}

@@ -1,15 +1,14 @@
 // The node `use` k path (document 01, "When a strip fits"): clause k is at hand, the path takes it apart from outside and ends exactly at an atom or at G implies atom,
 // and that atom, variables replaced, equals the goal's. The remaining clause bytes are handed on as a part that starts in the middle of its file.
 use crate::Entered;
+use equal::same_atoms;
 use harrop::Binding;
 use room::Source;
 use room::Spot;
 use room::Where;
 use room::copy;
-use room::may_use;
 use room::part;
 use room::push;
-use room::same_atoms;
 use room::supposed;
 use sexp::After;
 use sexp::Value;
@@ -17,6 +16,7 @@ use sexp::closes;
 use sexp::is_word;
 use sexp::number;
 use sexp::past;
+use start::may_use;
 ghost use mathlib.Core.Path.{_≡_};
 ghost use Prim.Native.Nat.{_+_, _≤_};
 ghost use lib.ListN.{length, getD, take};

@@ -28,7 +28,7 @@ use Rattle.sexp.proofs.WordLaws.{worth-decimal, decimal-is}
 use Rattle.sexp.proofs.WordsAtLaws.{numeral-stands}
 use Rattle.sexp.proofs.FoundLaws.{ends-here}
 use Rattle.packet.specs.Table.{rank}
-use Rattle.packet.specs.WordAt.{WordAt}
+use Rattle.reader.specs.WordAt.{WordAt}
 use Rattle.packet.specs.Written.{number, goalSexp, clauseSexp, stripSexp}
 use Rattle.packet.specs.Offset.{width}
 use Rattle.packet.specs.declared.Word.{Word}
@@ -36,7 +36,7 @@ use Rattle.packet.specs.declared.Word.the-variants as W
 use Rattle.room.specs.Frame.{bindingWord, held}
 use Rattle.room.specs.Layout.{candidatesWord, highestWord}
 use Rattle.room.proofs.FrameLaws.{held-same}
-use Rattle.room.proofs.TableLaws.{table-allowed}
+use Rattle.start.proofs.TableLaws.{table-allowed}
 use Rattle.room.specs.Spot.{supposing}
 use Rattle.room.specs.declared.Where.{Where}
 use Rattle.room.proofs.WhereLaws.{file}

@@ -4,5 +4,6 @@ pub mod StripLaws
 pub mod SpelledLaws
 pub mod DrawLaws
 pub mod FirstLaws
+pub mod LocatedLaws
 pub mod PathingLaws
 pub mod WritingLaws

@@ -4,10 +4,11 @@ use Prim.Native.Nat.{ℕ, zero, suc, _+_, _-_, _≤_, _<_}
 use native.Mathlib.Omega.{arith}
 use native.Mathlib.Numerals.{sub-one}
 use mathlib.Core.Path.{_≡_, refl, sym, _∙_, ap, subst}
-use mathlib.Core.Bool.{Bool, true, false}
+use mathlib.Core.Bool.{Bool, true, false, false≢true}
 use mathlib.Core.List.{List, [], _∷_, _++_}
 use mathlib.Core.Option.{Option, none, some, Option·some-injective}
-use lib.ListN.{length, take, drop, set, getElem?, length-append, length-take, length-drop}
+use lib.Seq.{getD-set-other}
+use lib.ListN.{length, getD, take, drop, set, getElem?, length-append, length-take, length-drop}
 use borrow.Rule.Slice.PartMut.{midOf, postOf, putMid}
 use Rattle.basics.specs.Choice.{choose, _>>=_, both-true, nope, bind-some}
 use Rattle.basics.specs.Text.{octets}
@@ -25,10 +26,10 @@ use Rattle.sexp.specs.Past.{PastAt}
 use Rattle.sexp.specs.Sexp.{nesting}
 use Rattle.packet.specs.declared.Word.{Word}
 use Rattle.packet.specs.declared.Word.the-variants as W
-use Rattle.packet.specs.WordAt.{WordAt}
+use Rattle.reader.specs.WordAt.{WordAt}
 use Rattle.packet.specs.declared.Kind.the-variants as K
-use Rattle.packet.specs.declared.table.Row.the-variants as R
-use Rattle.packet.specs.Rows.{rowOf}
+use Rattle.rows.specs.declared.table.Row.the-variants as R
+use Rattle.rows.specs.Rows.{rowOf}
 use Rattle.packet.specs.Table.{dueAfter}
 use Rattle.packet.specs.Barred.{goalOk, atomOk, clauseOk}
 use Rattle.packet.specs.Written.{clauseSexp}
@@ -36,43 +37,51 @@ use Rattle.room.specs.Frame.{bindingWord, held}
 use Rattle.room.specs.Where.{Files, plus, further}
 use Rattle.room.specs.declared.Spot.{Spot}
 use Rattle.room.specs.declared.Where.{Where}
+use Rattle.room.proofs.FrameLaws.{frame-length}
 use Rattle.room.proofs.NestLaws.{clause-nests}
-use Rattle.room.proofs.WhereLaws.{kept-then, kept-less}
 use Rattle.provable.specs.Hand.{deeper, Opened}
 use Rattle.provable.specs.Provable as spec
+use Rattle.provable.specs.Stock.{Stock}
 use Rattle.provable.specs.Proving.{Ready, Taken, Passing}
+use Rattle.provable.specs.Parts.{PlainAt}
+use Rattle.provable.specs.First.{PathIn}
+use Rattle.provable.specs.Filling.{LocatingAt}
 use Rattle.provable.specs.declared.Chosen.{Chosen}
 use Rattle.provable.specs.declared.Chosen.the-variants as C
 use Rattle.heads.proofs.HeadLaws.{goal-is, clause-says, clause-is, clause-has-row, heads, first-part, second-found, first-found}
+use Rattle.provable.proofs.StockLaws.{keeps-same, keeps-then, keeps-less}
 use Rattle.provable.proofs.ReadyLaws.{allowed-below, ready-kept}
 use Rattle.provable.proofs.HandLaws.{opened-none, opened-clause}
 use Rattle.provable.proofs.ProvingLaws.{bytesAt, both-of}
-use Rattle.provable.proofs.PassingLaws.{taken-part, taken-kept, push-kept, taken-with, bodyAt, ready-body, passing-at}
+use Rattle.provable.proofs.FirstLaws.{path-kept}
+use Rattle.provable.proofs.PassingLaws.{clause-there, taken-part, taken-kept, push-kept, taken-with, bodyAt, ready-body, passing-at}
 use Rattle.pen.specs.Numeral.{numeral}
 use Rattle.writer.specs.Chosen.{firstYes, stepping, usedAt, candidateFrom, clauseFrom, way}
 use Rattle.pen.specs.Laid.{Puts}
 use Rattle.writer.specs.Drawn.{Cuts, behind, Closes, Draws, DrawsRest, ended, useOf}
-use Rattle.writer.specs.Writing.{Did, Writing, WritingAs, Pathing, PathingAs, FirstClause, FirstThrough}
+use Rattle.writer.specs.Writing.{Did, Writing, WritingAs, Pathing, PathingAs, FirstClause, NumberThrough}
 use Rattle.writer.specs.declared.Drawn.{Drawn}
 use Rattle.writer.proofs.ChosenLaws.{first-atom}
+use Rattle.writer.proofs.LocatedLaws.{located-path}
 use Rattle.writer.proofs.TakenLaws.{way-atom, way-imp, way-number, way-l, way-r, took-use}
 use Rattle.writer.proofs.DrawLaws.{draws-lent, rest-lent, draws-use, rest-body, rest-l, rest-r, rest-n, used-rest}
 
 -- what is claimed of a clause
-abbrev Claim : Files → List ℕ → List ℕ → List ℕ → List ℕ → List (Clause Plain) → List Term → Where → Spot → ℕ → ℕ → ℕ → Drawn → List Plain → Hand Plain → Bindings → Atom → Bindings → List Step → End Plain → Option Strip → Clause Plain → Type 0
-Claim f room after d d′ ds us w x nest left at r o c bs a bs′ path e B dc =
+abbrev Claim : Files → List ℕ → List ℕ → List ℕ → List ℕ → List (Clause Plain) → List Term → Where → Spot → ℕ → ℕ → ℕ → Drawn → List Plain → Hand Plain → Bindings → Atom → Bindings → List Step → End Plain → Option Strip → Bool → Clause Plain → Type 0
+Claim f room after d d′ ds us w x nest left at r o c bs a bs′ path e B located dc =
     nesting (clauseSexp dc) ≤ nest →
     Taken f room ds us w x left o c bs a dc bs′ →
     way (listed us) o dc bs′ (spec.serves (listed us) left o c bs a) ≡ some (path, e) →
     ended (λ g bs″. first (listed us) left o c bs″ g) e ≡ some B →
-    Did (w .supposed) (x .base + x .count) room after (DrawsRest at path B d d′ r)
+    (located ≡ true → PathIn room (x .base + x .count) path) →
+    Did (Stock f ds us (w .supposed) c) (w .supposed) (x .base + x .count) room after (DrawsRest at path B d d′ r)
 
 -- a call's promise at the place, or the spot, that the code made, and from the room that it found
-pub pathing-at : {f : Files} {room after d d′ : List ℕ} {w : Where} {x y : Spot} {nest left at : ℕ} {r : Drawn} → x ≡ y → Pathing f room after d d′ w x nest left at r → Pathing f room after d d′ w y nest left at r
-pathing-at {f} {room} {after} {d} {d′} {w} {nest = nest} {left = left} {at = at} {r = r} e p = subst (λ (z : Spot). Pathing f room after d d′ w z nest left at r) e p
+pub pathing-at : {f : Files} {room after d d′ : List ℕ} {w : Where} {x y : Spot} {nest left at : ℕ} {located : Bool} {r : Drawn} → x ≡ y → Pathing f room after d d′ w x nest left at located r → Pathing f room after d d′ w y nest left at located r
+pathing-at {f} {room} {after} {d} {d′} {w} {nest = nest} {left = left} {at = at} {located = located} {r = r} e p = subst (λ (z : Spot). Pathing f room after d d′ w z nest left at located r) e p
 
-pub pathing-from : {f : Files} {room now after d d′ : List ℕ} {w : Where} {x : Spot} {nest left at : ℕ} {r : Drawn} → now ≡ room → Pathing f now after d d′ w x nest left at r → Pathing f room after d d′ w x nest left at r
-pathing-from {f} {after = after} {d = d} {d′ = d′} {w = w} {x = x} {nest = nest} {left = left} {at = at} {r = r} e p = subst (λ (z : List ℕ). Pathing f z after d d′ w x nest left at r) e p
+pub pathing-from : {f : Files} {room now after d d′ : List ℕ} {w : Where} {x : Spot} {nest left at : ℕ} {located : Bool} {r : Drawn} → now ≡ room → Pathing f now after d d′ w x nest left at located r → Pathing f room after d d′ w x nest left at located r
+pathing-from {f} {after = after} {d = d} {d′ = d′} {w = w} {x = x} {nest = nest} {left = left} {at = at} {located = located} {r = r} e p = subst (λ (z : List ℕ). Pathing f z after d d′ w x nest left at located r) e p
 
 pub writing-at : {f : Files} {room after d d′ : List ℕ} {v w : Where} {h at : ℕ} {r : Drawn} → v ≡ w → Writing f room after d d′ v h at r → Writing f room after d d′ w h at r
 writing-at {f} {room} {after} {d} {d′} {h = h} {at = at} {r = r} e p = subst (λ (z : Where). Writing f room after d d′ z h at r) e p
@@ -81,8 +90,8 @@ writing-at {f} {room} {after} {d} {d′} {h = h} {at = at} {r = r} e p = subst (
 pub writing-lent : {f : Files} {room after d p′ : List ℕ} {w : Where} {h i m : ℕ} {a r : Drawn} → Cuts m (length d) i → r ≡ behind i a → Writing f room after (midOf i (length d - i) d) p′ w h (m - i) a → Writing f room after d (putMid i (length d - i) d p′) w h m r
 writing-lent k e p ds us o c bs g S y z = let x = p ds us o c bs g S y z in record { kept = x .kept; done = draws-lent k e (x .done) }
 
-pub pathing-lent : {f : Files} {room after d p′ : List ℕ} {w : Where} {x : Spot} {nest left i m : ℕ} {a r : Drawn} → Cuts m (length d) i → r ≡ behind i a → Pathing f room after (midOf i (length d - i) d) p′ w x nest left (m - i) a → Pathing f room after d (putMid i (length d - i) d p′) w x nest left m r
-pathing-lent k e p ds us o c bs a dc bs′ path v B n t y z = let x = p ds us o c bs a dc bs′ path v B n t y z in record { kept = x .kept; done = rest-lent k e (x .done) }
+pub pathing-lent : {f : Files} {room after d p′ : List ℕ} {w : Where} {x : Spot} {nest left i m : ℕ} {located : Bool} {a r : Drawn} → Cuts m (length d) i → r ≡ behind i a → Pathing f room after (midOf i (length d - i) d) p′ w x nest left (m - i) located a → Pathing f room after d (putMid i (length d - i) d p′) w x nest left m located r
+pathing-lent k e p ds us o c bs a dc bs′ path v B n t y z loc = let x = p ds us o c bs a dc bs′ path v B n t y z loc in record { kept = x .kept; done = rest-lent k e (x .done) }
 
 -- a buffer is as long as before when a part of it comes back
 pub lent-length : (i m : ℕ) (d p′ : List ℕ) → Cuts m (length d) i → length p′ ≡ length (midOf i (length d - i) d) → length (putMid i (length d - i) d p′) ≡ length d
@@ -118,91 +127,105 @@ number-chosen us o q dc bs try path e h =
     let (i, k, z) = bind-some (candidateFrom (listed us) o q (λ i. spec.through (listed us) o dc (Candidate i ∷ bs) try) 0) (λ i. stepping (Step.n i) (way (listed us) o dc (Candidate i ∷ bs) try)) (path, e) h in
     (i, k)
 
+-- behind a number of a path in the room stand the others, also where it is written once more
+path-on : (room mid : List ℕ) (base count i : ℕ) (rest : List Step) → count ≤ 64 → plus base count ≡ base + count → mid ≡ room → PathIn room (base + count) (Step.n i ∷ rest) → PathIn (set mid (plus base count) (held (bindingWord (Candidate i)))) (base + plus count 1) rest
+path-on room mid base count i rest l e same h =
+    subst (λ (n : ℕ). PathIn (set mid (plus base count) (held (bindingWord (Candidate i)))) n rest) {x = base + count + 1} {y = base + plus count 1} (omega arith)
+    (path-kept room (set mid (plus base count) (held (bindingWord (Candidate i)))) (base + count + 1) rest
+    (λ j g. getD-set-other mid (plus base count) j (held (bindingWord (Candidate i))) 0 (λ z. omega arith) ∙ ap (λ (y : List ℕ). getD y j 0) same)
+    (h .1))
+
 module _ {f : Files} {room : List ℕ} {w : Where} {x : Spot} {left at : ℕ} {d : List ℕ} {r : Drawn} where
   -- a clause is a list
-  pub no-nest : {after d′ : List ℕ} (nest : ℕ) → nest ≡ 0 → Pathing f room after d d′ w x nest left at r
-  no-nest nest z ds us o c bs a dc bs′ path e B l t h k = absurd (omega (arith, clause-nests dc))
+  pub no-nest : {after d′ : List ℕ} {located : Bool} (nest : ℕ) → nest ≡ 0 → Pathing f room after d d′ w x nest left at located r
+  no-nest nest z ds us o c bs a dc bs′ path e B l t h k loc = absurd (omega (arith, clause-nests dc))
 
   -- a clause by its word
-  pub by-word : {after d′ : List ℕ} (nest : ℕ) (word k : Word) → (nest ≡ 0 → ⊥) → WordAt (drop (x .at) (bytesAt f x)) 1 k → k ≡ word → PathingAs word f room after d d′ w x (nest - 1) left at r → Pathing f room after d d′ w x nest left at r
+  pub by-word : {after d′ : List ℕ} {located : Bool} (nest : ℕ) (word k : Word) → (nest ≡ 0 → ⊥) → WordAt (drop (x .at) (bytesAt f x)) 1 k → k ≡ word → PathingAs word f room after d d′ w x (nest - 1) left at located r → Pathing f room after d d′ w x nest left at located r
   by-word nest word k z q e p ds us o c bs a dc bs′ path end B l t =
       p ds us o c bs a dc bs′ path end B (sym (clause-says (bytesAt f x) (x .at) dc k (t .framed .stands) q) ∙ e) (omega arith) t
 
+  -- the promise of one that does not ask whether the path stands in the room
+  pub by-any : {after d′ : List ℕ} {located : Bool} (nest : ℕ) (word : Word) → PathingAs word f room after d d′ w x nest left at false r → PathingAs word f room after d d′ w x nest left at located r
+  by-any nest word p ds us o c bs a dc bs′ path end B h l t k z loc = p ds us o c bs a dc bs′ path end B h l t k z (λ y. absurd (false≢true y))
+
   -- no clause has any other word
-  pub by-other : {after d′ : List ℕ} (nest : ℕ) (k : Word) → WordAt (drop (x .at) (bytesAt f x)) 1 k → R.Nothing ≡ rowOf (dueAfter K.Clause k) → Pathing f room after d d′ w x nest left at r
+  pub by-other : {after d′ : List ℕ} {located : Bool} (nest : ℕ) (k : Word) → WordAt (drop (x .at) (bytesAt f x)) 1 k → R.Nothing ≡ rowOf (dueAfter K.Clause k) → Pathing f room after d d′ w x nest left at located r
   by-other nest k q n ds us o c bs a dc bs′ path e B l t = absurd (clause-has-row dc k (clause-says (bytesAt f x) (x .at) dc k (t .framed .stands) q) n)
 
   -- an atom: the path ends, and nothing is behind it
-  pub atom-ends : {d′ : List ℕ} (nest : ℕ) → DrawsRest at [] none d d′ r → PathingAs W.Atom f room room d d′ w x nest left at r
+  pub atom-ends : {d′ : List ℕ} (nest : ℕ) → DrawsRest at [] none d d′ r → PathingAs W.Atom f room room d d′ w x nest left at false r
   atom-ends {d′} nest p ds us o c bs a dc bs′ path e B h =
       let (b, n) = clause-is dc h in
-      subst (Claim f room room d d′ ds us w x (suc nest) left at r o c bs a bs′ path e B) (sym n)
-      (λ l t k z.
+      subst (Claim f room room d d′ ds us w x (suc nest) left at r o c bs a bs′ path e B false) (sym n)
+      (λ l t k z loc.
       let (u, v) = way-atom (listed us) o bs′ (spec.serves (listed us) left o c bs a) path e b k in
       let y = Option·some-injective none B (ap (ended (λ g bs″. first (listed us) left o c bs″ g)) {x = End.atAtom b bs′} {y = e} (sym v) ∙ z) in
-      record { kept = λ i k. refl; done = drawn-as u y p })
+      record { kept = keeps-same room; done = drawn-as u y p })
 
   -- a goal that implies an atom: the path ends, and the goal's strip is behind it
-  pub body-ends : {after d1 d2 : List ℕ} {v : Where} {m : ℕ} (nest : ℕ) → Puts at (octets ")") d d1 m → v ≡ bodyAt w x 6 → Writing f room after d1 d2 v left m r → PathingAs W.Imp f room after d d2 w x nest left at r
+  pub body-ends : {after d1 d2 : List ℕ} {v : Where} {m : ℕ} (nest : ℕ) → Puts at (octets ")") d d1 m → v ≡ bodyAt w x 6 → Writing f room after d1 d2 v left m r → PathingAs W.Imp f room after d d2 w x nest left at false r
   body-ends {after} {d1} {d2} {v} {m} nest p i body ds us o c bs a dc bs′ path e B h =
       let (g, b, n) = clause-is dc h in
-      subst (Claim f room after d d2 ds us w x (suc nest) left at r o c bs a bs′ path e B) (sym n)
-      (λ l t k z.
+      subst (Claim f room after d d2 ds us w x (suc nest) left at r o c bs a bs′ path e B false) (sym n)
+      (λ l t k z loc.
       let (u, v) = way-imp (listed us) o bs′ (spec.serves (listed us) left o c bs a) path e g b k in
       let (X, y, q) = dressed-some some (first (listed us) left o c bs′ g) B (ap (ended (λ g bs″. first (listed us) left o c bs″ g)) {x = End.atImp g b bs′} {y = e} (sym v) ∙ z) in
       let m = writing-at i body ds us o c bs′ g X (ready-body t 6 g (first-part (octets "imp") (heads .1 .1 .1 .1) (t .framed .stands)) (omega arith) (both-of (goalOk (length bs′) g) (atomOk (length bs′) b) (t .scoped) .0)) y in
       record {
-        kept = kept-less room after (omega arith) (omega (arith, t .fresh, t .ready .enough .bindings, t .framed .shallow)) (m .kept);
+        kept = keeps-less room after (omega arith) (omega (arith, t .fresh, t .ready .enough .bindings, t .framed .shallow)) (m .kept);
         done = drawn-as u q (rest-body p (m .done));
       })
 
   -- two clauses
-  pub and-lost : {after d′ : List ℕ} {q : After} (nest : ℕ) → PastAt (drop (x .at) (bytesAt f x)) 6 64 q → q ≡ A.Nothing → PathingAs W.And f room after d d′ w x nest left at r
+  pub and-lost : {after d′ : List ℕ} {q : After} (nest : ℕ) → PastAt (drop (x .at) (bytesAt f x)) 6 64 q → q ≡ A.Nothing → PathingAs W.And f room after d d′ w x nest left at false r
   and-lost {after} {d′} nest p k ds us o c bs a dc bs′ path e B h =
       let (y, z, n) = clause-is dc h in
-      subst (Claim f room after d d′ ds us w x (suc nest) left at r o c bs a bs′ path e B) (sym n)
-      (λ l t u v. absurd (first-found (octets "and") (heads .0) (t .framed .stands) (omega (arith, t .framed .shallow)) p k))
+      subst (Claim f room after d d′ ds us w x (suc nest) left at r o c bs a bs′ path e B false) (sym n)
+      (λ l t u v loc. absurd (first-found (octets "and") (heads .0) (t .framed .stands) (omega (arith, t .framed .shallow)) p k))
 
-  pub and-left : {mid after d1 d2 : List ℕ} {u v : Spot} {m : ℕ} {s : Bool} (nest : ℕ) → u ≡ further x 6 → Passing f room mid w u nest left s → s ≡ true → length mid ≡ length room → Puts at (octets "1:l") d d1 m → v ≡ further x 6 → Pathing f mid after d1 d2 w v nest left m r → PathingAs W.And f room after d d2 w x nest left at r
+  pub and-left : {mid after d1 d2 : List ℕ} {u v : Spot} {m : ℕ} {s : Bool} (nest : ℕ) → u ≡ further x 6 → Passing f room mid w u nest left s → s ≡ true → length mid ≡ length room → Puts at (octets "1:l") d d1 m → v ≡ further x 6 → Pathing f mid after d1 d2 w v nest left m false r → PathingAs W.And f room after d d2 w x nest left at false r
   and-left {mid} {after} {d1} {d2} nest i p z long b j p′ ds us o c bs a dc bs′ path e B h =
       let (y, y′, n) = clause-is dc h in
-      subst (Claim f room after d d2 ds us w x (suc nest) left at r o c bs a bs′ path e B) (sym n)
-      (λ l t k u.
+      subst (Claim f room after d d2 ds us w x (suc nest) left at r o c bs a bs′ path e B false) (sym n)
+      (λ l t k u loc.
       let t′ = taken-part t 6 y (first-part (octets "and") (heads .0) (t .framed .stands)) (omega arith) (both-of (clauseOk (length bs′) y) (clauseOk (length bs′) y′) (t .scoped) .0) in
       let m = passing-at i p ds us o c bs a y bs′ (omega arith) t′ in
       let (rest, v, q) = way-l (listed us) o bs′ (spec.serves (listed us) left o c bs a) path e y y′ (sym (m .answer) ∙ z) k in
-      let m′ = pathing-at j p′ ds us o c bs a y bs′ rest e B (omega arith) (taken-kept t′ (m .kept) long) q u in
-      record { kept = kept-then room mid after (omega arith) (omega arith) (m .kept) (m′ .kept); done = drawn-as {path = Step.l ∷ rest} v refl (rest-l {path = rest} b (m′ .done)) })
+      let m′ = pathing-at j p′ ds us o c bs a y bs′ rest e B (omega arith) (taken-kept t′ (m .kept) long) q u (λ y. absurd (false≢true y)) in
+      record { kept = keeps-then room mid after (omega arith) (omega arith) (m .kept) (m′ .kept); done = drawn-as {path = Step.l ∷ rest} v refl (rest-l {path = rest} b (m′ .done)) })
 
-  pub and-right : {mid after d1 d2 : List ℕ} {u v : Spot} {q : After} {k m : ℕ} {s : Bool} (nest : ℕ) → PastAt (drop (x .at) (bytesAt f x)) 6 64 q → q ≡ A.Next k → u ≡ further x 6 → Passing f room mid w u nest left s → s ≡ false → length mid ≡ length room → Puts at (octets "1:r") d d1 m → v ≡ further x k → Pathing f mid after d1 d2 w v nest left m r → PathingAs W.And f room after d d2 w x nest left at r
+  pub and-right : {mid after d1 d2 : List ℕ} {u v : Spot} {q : After} {k m : ℕ} {s : Bool} (nest : ℕ) → PastAt (drop (x .at) (bytesAt f x)) 6 64 q → q ≡ A.Next k → u ≡ further x 6 → Passing f room mid w u nest left s → s ≡ false → length mid ≡ length room → Puts at (octets "1:r") d d1 m → v ≡ further x k → Pathing f mid after d1 d2 w v nest left m false r → PathingAs W.And f room after d d2 w x nest left at false r
   and-right {mid} {after} {d1} {d2} {k = k} nest w1 w2 i p z long b j p′ ds us o c bs a dc bs′ path e B h =
       let (y, y′, n) = clause-is dc h in
-      subst (Claim f room after d d2 ds us w x (suc nest) left at r o c bs a bs′ path e B) (sym n)
-      (λ l t ch u.
+      subst (Claim f room after d d2 ds us w x (suc nest) left at r o c bs a bs′ path e B false) (sym n)
+      (λ l t ch u loc.
       let (ok, ok′) = both-of (clauseOk (length bs′) y) (clauseOk (length bs′) y′) (t .scoped) in
       let m = passing-at i p ds us o c bs a y bs′ (omega arith) (taken-part t 6 y (first-part (octets "and") (heads .0) (t .framed .stands)) (omega arith) ok) in
       let (rest, v, q) = way-r (listed us) o bs′ (spec.serves (listed us) left o c bs a) path e y y′ (sym (m .answer) ∙ z) ch in
       let t′ = taken-part t k y′ (second-found (octets "and") (heads .0) (t .framed .stands) w1 w2) (omega arith) ok′ in
-      let m′ = pathing-at j p′ ds us o c bs a y′ bs′ rest e B (omega arith) (taken-kept t′ (m .kept) long) q u in
-      record { kept = kept-then room mid after (omega arith) (omega arith) (m .kept) (m′ .kept); done = drawn-as {path = Step.r ∷ rest} v refl (rest-r {path = rest} b (m′ .done)) })
+      let m′ = pathing-at j p′ ds us o c bs a y′ bs′ rest e B (omega arith) (taken-kept t′ (m .kept) long) q u (λ y. absurd (false≢true y)) in
+      record { kept = keeps-then room mid after (omega arith) (omega arith) (m .kept) (m′ .kept); done = drawn-as {path = Step.r ∷ rest} v refl (rest-r {path = rest} b (m′ .done)) })
 
   -- an `all`, with the candidate that is chosen
-  pub all-with : {mid after d1 d2 : List ℕ} {v : Spot} {m : ℕ} (nest i : ℕ) → FirstThrough f room mid w x nest left i → length mid ≡ length room → Puts at (numeral i) d d1 m → v ≡ deeper x 6 → Pathing f (set mid (plus (x .base) (x .count)) (held (bindingWord (Candidate i)))) after d1 d2 w v nest left m r → PathingAs W.All f room after d d2 w x nest left at r
-  all-with {mid} {after} {d1} {d2} nest i first long b j p ds us o c bs a dc bs′ path e B h =
+  pub all-with : {mid after d1 d2 : List ℕ} {v : Spot} {m : ℕ} (nest i : ℕ) (located : Bool) → NumberThrough f room mid w x nest left located i → length mid ≡ length room → Puts at (numeral i) d d1 m → v ≡ deeper x 6 → Pathing f (set mid (plus (x .base) (x .count)) (held (bindingWord (Candidate i)))) after d1 d2 w v nest left m located r → PathingAs W.All f room after d d2 w x nest left at located r
+  all-with {mid} {after} {d1} {d2} nest i located number long b j p ds us o c bs a dc bs′ path e B h =
       let (q, y, n) = clause-is dc h in
-      subst (Claim f room after d d2 ds us w x (suc nest) left at r o c bs a bs′ path e B) (sym n)
-      (λ l t k u.
+      subst (Claim f room after d d2 ds us w x (suc nest) left at r o c bs a bs′ path e B located) (sym n)
+      (λ l t k u loc.
       let try : End Plain → Bool = spec.serves (listed us) left o c bs a in
       let (i′, ch) = number-chosen us o q y bs′ try path e k in
-      let m = first ds us o c bs a q y bs′ i′ l t ch in
-      let is = ch ∙ ap some (sym (m .done)) in
+      let (rest′, v′, z′) = way-number (listed us) o bs′ try path e q y i′ ch k in
+      let m = number ds us o c bs a q y bs′ i′ l t ch (λ g. subst (PathIn room (x .base + x .count)) v′ (loc g) .0) in
+      let is = ch ∙ ap some (sym (m .done .0)) in
       let below = chosen-below us o q (λ i. spec.through (listed us) o y (Candidate i ∷ bs′) try) i is in
       let (rest, v, z) = way-number (listed us) o bs′ try path e q y i is k in
       let t′ = taken-kept t {after = mid} (m .kept) long in
       let s = held (bindingWord (Candidate i)) in
-      let m′ = pathing-at j p ds us o c bs a y (Candidate i ∷ bs′) rest e B (omega arith) (taken-with t′ 6 i y (first-part (octets "all") (heads .1 .1 .1 .0) (t .framed .stands)) (omega arith) (t .scoped) below) z u in
+      let here : plus (x .base) (x .count) ≡ x .base + x .count = omega (arith, t .framed .shallow, t .fresh, t .ready .low) in
+      let m′ = pathing-at j p ds us o c bs a y (Candidate i ∷ bs′) rest e B (omega arith) (taken-with t′ 6 i y (first-part (octets "all") (heads .1 .1 .1 .0) (t .framed .stands)) (omega arith) (t .scoped) below) z u (λ g. path-on room mid (x .base) (x .count) i rest (omega (arith, t .framed .shallow)) here (m .done .1 g) (subst (PathIn room (x .base + x .count)) v (loc g))) in
       record {
-        kept = kept-then room mid after (omega arith) (omega arith) (m .kept) (kept-then mid (set mid (plus (x .base) (x .count)) s) after (omega arith) (omega (arith, t .framed .shallow)) (push-kept t′ s) (m′ .kept));
+        kept = keeps-then room mid after (omega arith) (omega arith) (m .kept) (keeps-then mid (set mid (plus (x .base) (x .count)) s) after (omega arith) (omega (arith, t .framed .shallow)) (push-kept t′ s) (m′ .kept));
         done = drawn-as {path = Step.n i ∷ rest} v refl (rest-n {path = rest} b (m′ .done));
       })
 
@@ -211,7 +234,7 @@ abbrev pub GoalClaim : Files → List ℕ → List ℕ → List ℕ → List ℕ
 GoalClaim f room after d d′ ds us w h at r o c bs S g =
     Ready f room ds us w h o c bs g →
     first (listed us) h o c bs g ≡ some S →
-    Did (w .supposed) (w .top) room after (Draws at S d d′ r)
+    Did (Stock f ds us (w .supposed) c) (w .supposed) (w .top) room after (Draws at S d d′ r)
 
 -- what the first strip of an atom is, where clause k is chosen
 use-chosen : (us : List Term) (h : ℕ) (o : List Plain) (c : Hand Plain) (bs : Bindings) (a : Atom) (S : Strip) → first (listed us) (suc h) o c bs (Goal.atom a) ≡ some S → (k : ℕ) × (x : AtHand Plain) × (clauseFrom (listed us) o c (spec.serves (listed us) h o c bs a) 0 ≡ some k) × (getElem? c k ≡ some x)
@@ -254,8 +277,8 @@ module _ {f : Files} {room mid : List ℕ} {w : Where} {left at : ℕ} {d : List
       let (gone, same) = opened-none (ready-kept (z .kept) long t) k (subst (Opened mid after k (w .supposed) (w .top)) e p) in
       nope (sym gone ∙ ap (getElem? c) (z .done) ∙ m))
 
-  pub use-drawn : {now after d1 d2 d3 d4 d5 : List ℕ} {q : Chosen} {y : Spot} {l m n : ℕ} {s : Drawn} → Opened mid now k (w .supposed) (w .top) q → q ≡ C.Clause y → Puts at (octets "(3:use") d d1 l → Puts l (numeral k) d1 d2 m → Puts m (octets "(") d2 d3 n → Pathing f now after d3 d4 w y 64 left n s → Closes s d4 d5 r → WritingAs W.Atom f room after d d5 w left at r
-  use-drawn {now} {after} {d5 = d5} p e head number path m close ds us o c bs g S h =
+  pub use-drawn : {now after d1 d2 d3 d4 d5 : List ℕ} {q : Chosen} {y : Spot} {l m n : ℕ} {located : Bool} {s : Drawn} → LocatingAt f room mid w left k → Opened mid now k (w .supposed) (w .top) q → q ≡ C.Clause y → PlainAt f y located → Puts at (octets "(3:use") d d1 l → Puts l (numeral k) d1 d2 m → Puts m (octets "(") d2 d3 n → Pathing f now after d3 d4 w y 64 left n located s → Closes s d4 d5 r → WritingAs W.Atom f room after d d5 w left at r
+  use-drawn {now} {after} {d5 = d5} {y = y₀} left′ p e plain head number path m close ds us o c bs g S h =
       let (a, n) = goal-is g h in
       subst (GoalClaim f room after d d5 ds us w (suc left) at r o c bs S) (sym n)
       (λ t u.
@@ -263,9 +286,14 @@ module _ {f : Files} {room mid : List ℕ} {w : Where} {left at : ℕ} {d : List
       let z = chosen ds us o c bs a k′ t ch in
       let x = opened-clause (ready-kept (z .kept) long t) k (subst (Opened mid now k (w .supposed) (w .top)) e p) in
       let z′ = use-taken us left o c bs a S k (x .clause) (ch ∙ ap some (sym (z .done))) (x .there) u in
-      let y = m ds us o c bs a (x .clause .clause) (x .clause .bindings) (z′ .path) (z′ .end) (z′ .body) (omega (arith, x .taken .framed .shallow)) (x .taken) (z′ .through) (z′ .behind) in
+      let y = m ds us o c bs a (x .clause .clause) (x .clause .bindings) (z′ .path) (z′ .end) (z′ .body) (omega (arith, x .taken .framed .shallow)) (x .taken) (z′ .through) (z′ .behind) (λ b.
+      let so = sym (plain (x .clause .clause) (omega (arith, x .taken .framed .shallow)) (clause-there (x .taken)) (omega (arith, x .taken .framed .shallow))) ∙ b in
+      let many = ap length (sym (x .taken .framed .holds)) ∙ frame-length now (y₀ .base) (y₀ .count) in
+      path-kept mid now (y₀ .base + y₀ .count) (z′ .path) (x .above)
+      (subst (λ (i : ℕ). PathIn mid i (z′ .path)) {x = w .top + length (x .clause .bindings)} {y = y₀ .base + y₀ .count} (omega (arith, x .taken .fresh, many))
+      (located-path (x .clause .clause) (omega (arith, t .place .booked .candidates .few)) so (left′ ds us o c bs a t (x .clause) (x .there) so) (z′ .through)))) in
       let low : height S ≤ 64 = omega (arith, first-within (listed us) (found-is-first (listed us) (suc left) o c bs (Goal.atom a) S u), t .enough .supposed) in
       record {
-        kept = kept-then room mid after (omega arith) (omega arith) (z .kept) (kept-then mid now after (omega arith) (omega (arith, x .taken .fresh)) (x .kept) (y .kept));
+        kept = keeps-then room mid after (omega arith) (omega arith) (z .kept) (keeps-then mid now after (omega arith) (omega (arith, x .taken .fresh)) (x .kept) (y .kept));
         done = use-whole S k (z′ .path) (z′ .body) (z′ .whole) low head number path (y .done) close;
       })

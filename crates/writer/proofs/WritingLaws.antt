@@ -22,23 +22,23 @@ use Rattle.sexp.specs.declared.skip.After.the-variants as A
 use Rattle.sexp.specs.Past.{PastAt}
 use Rattle.packet.specs.declared.Word.{Word}
 use Rattle.packet.specs.declared.Word.the-variants as W
-use Rattle.packet.specs.WordAt.{WordAt}
+use Rattle.reader.specs.WordAt.{WordAt}
 use Rattle.packet.specs.declared.Kind.the-variants as K
-use Rattle.packet.specs.declared.table.Row.the-variants as R
-use Rattle.packet.specs.Rows.{rowOf}
+use Rattle.rows.specs.declared.table.Row.the-variants as R
+use Rattle.rows.specs.Rows.{rowOf}
 use Rattle.packet.specs.Table.{dueAfter}
 use Rattle.packet.specs.Barred.{goalOk, clauseOk}
 use Rattle.room.specs.Frame.{bindingWord, held}
 use Rattle.room.specs.Spot.{supposing}
-use Rattle.room.specs.Where.{Files, further, within, bound, supposes}
+use Rattle.room.specs.Where.{Files, plus, further, within, bound, supposes}
 use Rattle.room.specs.declared.Spot.{Spot}
 use Rattle.room.specs.declared.Where.{Where}
-use Rattle.room.proofs.WhereLaws.{kept-then, push-keeps}
-use Rattle.room.proofs.MoveLaws.{suppose-keeps}
+use Rattle.table.specs.Recall.{TableOnly, Forgets}
 use Rattle.provable.specs.Provable.{provable}
 use Rattle.provable.specs.Proving.{Ready, Proving, provesWith}
 use Rattle.heads.proofs.HeadLaws.{goal-says, goal-is, goal-has-row, heads, first-part, second-found, first-found}
-use Rattle.provable.proofs.ReadyLaws.{ready-kept, ready-part, ready-with, ready-all, ready-under}
+use Rattle.provable.proofs.StockLaws.{keeps-same, keeps-then, keeps-push}
+use Rattle.provable.proofs.ReadyLaws.{ready-kept, ready-part, ready-with, ready-all, ready-under, under-keeps}
 use Rattle.provable.proofs.ProvingLaws.{bytesAt, both-of, proving-at}
 use Rattle.pen.specs.Numeral.{numeral}
 use Rattle.pen.specs.Laid.{Puts}
@@ -88,7 +88,7 @@ module _ {f : Files} {room : List ℕ} {w : Where} {at : ℕ} {d : List ℕ} {r 
   pub top-drawn : {d′ : List ℕ} (left : ℕ) → Draws at Strip.top d d′ r → WritingAs W.Top f room room d d′ w left at r
   top-drawn {d′} left p ds us o c bs g S h =
       subst (GoalClaim f room room d d′ ds us w (suc left) at r o c bs S) (sym (goal-is g h))
-      (λ rd e. record { kept = λ i l. refl; done = drawn-as (took-top (listed us) o c bs S (suc left) (λ z. absurd (omega arith)) e) (λ l. p) (low rd e) })
+      (λ rd e. record { kept = keeps-same room; done = drawn-as (took-top (listed us) o c bs S (suc left) (λ z. absurd (omega arith)) e) (λ l. p) (low rd e) })
 
   module _ {left : ℕ} where
     -- the part of an `and` or an `or` is always found
@@ -108,7 +108,7 @@ module _ {f : Files} {room : List ℕ} {w : Where} {at : ℕ} {d : List ℕ} {r 
         let one = writing-at i p ds us o c bs x X (ready-part rd 6 x (first-part (octets "and") (heads .0) (rd .place .framed .stands)) (omega arith) ok) fx in
         let two = writing-at j p′ ds us o c bs y Y (ready-kept (one .kept) l (ready-part rd k y (second-found (octets "and") (heads .0) (rd .place .framed .stands) u e) (omega arith) ok′)) fy in
         record {
-          kept = kept-then room mid after (omega arith) (omega arith) (one .kept) (two .kept);
+          kept = keeps-then room mid after (omega arith) (omega arith) (one .kept) (two .kept);
           done = drawn-as is (λ l. draws-and l head (one .done) (two .done) (subst (λ (y : Drawn). Closes y d3 d4 r) t close)) (low rd z);
         })
 
@@ -129,7 +129,7 @@ module _ {f : Files} {room : List ℕ} {w : Where} {at : ℕ} {d : List ℕ} {r 
         let (X, fx, is) = rw sub-one at (took-left (listed us) o c bs S (suc left) x x′ (λ z. absurd (omega arith)) (rw sub-one has) z) in
         let one = writing-at j p ds us o c bs x X (ready-kept (yes .kept) l part) fx in
         record {
-          kept = kept-then room mid after (omega arith) (omega arith) (yes .kept) (one .kept);
+          kept = keeps-then room mid after (omega arith) (omega arith) (yes .kept) (one .kept);
           done = drawn-as is (λ l. draws-left l head (one .done) close) (low rd z);
         })
 
@@ -144,7 +144,7 @@ module _ {f : Files} {room : List ℕ} {w : Where} {at : ℕ} {d : List ℕ} {r 
         let (X, fx, is) = rw sub-one at (took-right (listed us) o c bs S (suc left) x x′ (λ z. absurd (omega arith)) (rw sub-one has) z) in
         let one = writing-at j p ds us o c bs x′ X (ready-kept (no′ .kept) l (ready-part rd k x′ (second-found (octets "or") (heads .1 .0) (rd .place .framed .stands) u e) (omega arith) ok′)) fx in
         record {
-          kept = kept-then room mid after (omega arith) (omega arith) (no′ .kept) (one .kept);
+          kept = keeps-then room mid after (omega arith) (omega arith) (no′ .kept) (one .kept);
           done = drawn-as is (λ l. draws-right l head (one .done) close) (low rd z);
         })
 
@@ -163,7 +163,7 @@ module _ {f : Files} {room : List ℕ} {w : Where} {at : ℕ} {d : List ℕ} {r 
         let one = writing-at j p ds us o c (Candidate i ∷ bs) x X (ready-with rd′ 7 i x (first-part (octets "some") (heads .1 .1 .0) (rd .place .framed .stands)) (omega arith) (rd .place .scoped) one-of) fx in
         let up = held (bindingWord (Candidate i)) in
         record {
-          kept = kept-then room mid after (omega arith) (omega arith) (y .kept) (kept-then mid (set mid (w .top) up) after (omega arith) (omega (arith, rd .enough .bindings)) (push-keeps mid (w .supposed) (w .top) up (omega (arith, rd .enough .supposed)) (omega (arith, rd .place .framed .above, rd .place .tight))) (one .kept));
+          kept = keeps-then room mid after (omega arith) (omega arith) (y .kept) (keeps-then mid (set mid (w .top) up) after (omega arith) (omega (arith, rd .enough .bindings)) (keeps-push mid (w .supposed) (w .top) up (omega (arith, rd .enough .supposed)) (omega (arith, rd .place .framed .above, rd .place .tight)) (omega (arith, rd .low))) (one .kept));
           done = drawn-as is (λ l. draws-some l head number (one .done) close) (low rd z);
         })
 
@@ -181,7 +181,7 @@ module _ {f : Files} {room : List ℕ} {w : Where} {at : ℕ} {d : List ℕ} {r 
         let one = writing-at j k ds us (q ∷ o) c (Parameter p ∷ bs) x X (ready-all rd 6 p q x e (first-part (octets "all") (heads .1 .1 .1 .0) (rd .place .framed .stands)) (omega arith) (rd .place .scoped)) (ap (λ (m : ℕ). first (listed us) left (q ∷ o) c (Parameter m ∷ bs) x) same ∙ fx) in
         let up = held (bindingWord (Parameter p)) in
         record {
-          kept = kept-then room (set room (w .top) up) after (omega arith) (omega (arith, rd .enough .bindings)) (push-keeps room (w .supposed) (w .top) up (omega (arith, rd .enough .supposed)) (omega (arith, rd .place .framed .above, rd .place .tight))) (one .kept);
+          kept = keeps-then room (set room (w .top) up) after (omega arith) (omega (arith, rd .enough .bindings)) (keeps-push room (w .supposed) (w .top) up (omega (arith, rd .enough .supposed)) (omega (arith, rd .place .framed .above, rd .place .tight)) (omega (arith, rd .low))) (one .kept);
           done = drawn-as is (λ l. draws-all l head (one .done) close) (low rd z);
         })
 
@@ -198,17 +198,19 @@ module _ {f : Files} {room : List ℕ} {w : Where} {at : ℕ} {d : List ℕ} {r 
         subst (GoalClaim f room after d d′ ds us w (suc left) at r o c bs S) (sym n)
         (λ rd u. absurd (first-found (octets "imp") (heads .1 .1 .1 .1) (rd .place .framed .stands) (omega (arith, rd .place .framed .shallow)) p e))
 
-    pub under-drawn : {after d1 d2 d3 : List ℕ} {v : Where} {y : Spot} {q : After} {k m : ℕ} {a : Drawn} → (left ≡ 0 → ⊥) → PastAt (drop (w .goal .at) (bytesAt f (w .goal))) 6 64 q → q ≡ A.Next k → y ≡ further (w .goal) 6 → Puts at (octets "(3:imp") d d1 m → v ≡ supposes w k → Writing f (supposing room (w .supposed) y) after d1 d2 v left m a → Closes a d2 d3 r → WritingAs W.Imp f room after d d3 w left at r
-    under-drawn {after} {d1} {d2} {d3} {v} {k = k} {m = m} {a = a} z u e j head i p close ds us o c bs g S h =
-        let (dc, x, n) = goal-is g h in
-        subst (GoalClaim f room after d d3 ds us w (suc left) at r o c bs S) (sym n)
+    pub under-drawn : {mid now after d1 d2 d3 : List ℕ} {v : Where} {y : Spot} {q : After} {k i m : ℕ} {a : Drawn} → (left ≡ 0 → ⊥) → PastAt (drop (w .goal .at) (bytesAt f (w .goal))) 6 64 q → q ≡ A.Next k → y ≡ further (w .goal) 6 → mid ≡ supposing room (w .supposed) y → i ≡ plus (w .supposed) 1 → TableOnly mid now → Forgets mid now i → Puts at (octets "(3:imp") d d1 m → v ≡ supposes w k → Writing f now after d1 d2 v left m a → Closes a d2 d3 r → WritingAs W.Imp f room after d d3 w left at r
+    under-drawn {mid} {now} {after} {d3 = d3} {k = k} z u e j under n only gone head i p close ds us o c bs g S h =
+        let (dc, x, same) = goal-is g h in
+        subst (GoalClaim f room after d d3 ds us w (suc left) at r o c bs S) (sym same)
         (λ rd t.
         let (X, fx, is) = rw sub-one at (took-imp (listed us) o c bs S (suc left) dc x (λ z. absurd (omega arith)) t) in
         let (okd, ok) = both-of (clauseOk (length bs) dc) (goalOk (length bs) x) (rd .place .scoped) in
         let st = rd .place .framed .stands in
-        let p′ = writing-at i (subst (λ (b : Spot). Writing f (supposing room (w .supposed) b) after d1 d2 v left m a) j p) in
-        let one = p′ ds us o (c ++ (record { clause = dc; bindings = bs } ∷ [])) bs x X (ready-under rd 6 k dc x z (first-part (octets "imp") (heads .1 .1 .1 .1) st) (omega arith) okd (second-found (octets "imp") (heads .1 .1 .1 .1) st u e) (omega arith) ok) fx in
+        let here = under ∙ ap (supposing room (w .supposed)) j in
+        let only′ = subst (λ (b : List ℕ). TableOnly b now) here only in
+        let gone′ = subst (λ (b : List ℕ). Forgets b now (plus (w .supposed) 1)) here (subst (Forgets mid now) n gone) in
+        let one = writing-at i p ds us o (c ++ (record { clause = dc; bindings = bs } ∷ [])) bs x X (ready-under rd 6 k dc x z (first-part (octets "imp") (heads .1 .1 .1 .1) st) (omega arith) okd (second-found (octets "imp") (heads .1 .1 .1 .1) st u e) (omega arith) ok only′ gone′) fx in
         record {
-          kept = kept-then room (supposing room (w .supposed) (further (w .goal) 6)) after (omega (arith, rd .enough .supposed)) (omega arith) (suppose-keeps room (w .supposed) (w .top) (further (w .goal) 6) (omega (arith, rd .enough .supposed))) (one .kept);
+          kept = under-keeps rd 6 (record { clause = dc; bindings = bs } ∷ []) z only′ gone′ (one .kept);
           done = drawn-as is (λ l. draws-imp l head (one .done) close) (low rd t);
         })

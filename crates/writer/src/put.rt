@@ -1,7 +1,7 @@
 // What is drawn of a strip (document 01, "What comes back": height, nodes, length).
 use crate::Drawn;
 use pen::put;
-use room::plus;
+use places::plus;
 ghost use mathlib.Core.Path.{_≡_};
 ghost use Prim.Native.Nat.{max};
 ghost use mathlib.Core.List.{[]};

@@ -1,10 +1,10 @@
-// The first strip at a place that has a proof, drawn node by node: of each option in order crate provable is asked, and the walk goes on in the first that has a proof
+// The first strip at a place that has a proof, drawn node by node: of each option in order crate provable is asked, and the walk goes on in the first that has a proof; the numbers of a path that the search has left in the room are taken from there
 // (document 01, "Which strip the search writes"). A node draws its head, lends the remaining part of the buffer to the writer of each of its parts, and draws its closing parenthesis behind them. `at` is 0 but for a part
 // that begins beyond the buffer's end, where nothing is written and the strip is only measured.
 use crate::Drawn;
 use crate::first::first_clause;
-use crate::first::first_through;
 use crate::first::first_with;
+use crate::first::number_through;
 use crate::put::behind;
 use crate::put::beside;
 use crate::put::close;
@@ -16,24 +16,27 @@ use harrop::Binding;
 use packet::Word;
 use pen::put;
 use pen::put_number;
+use places::bound;
+use places::further;
+use places::past_part;
+use places::plus;
+use places::supposes;
+use places::within;
+use places::word_there;
 use provable::Chosen;
 use provable::deeper;
+use provable::is_plain;
 use provable::open_clause;
 use provable::prove_goal;
 use provable::through;
 use room::Spot;
 use room::Where;
-use room::bound;
-use room::further;
-use room::past_part;
-use room::plus;
 use room::push;
 use room::suppose;
-use room::supposes;
-use room::within;
-use room::word_there;
 use sexp::After;
+use table::forget;
 ghost use Prim.Native.Nat.{ℕ};
+ghost use mathlib.Core.Bool.{false};
 ghost use Rattle.packet.specs.declared.Word.the-variants as W;
 ghost use Rattle.room.specs.Where.{filesOf};
 ghost use Rattle.writer.specs.Writing.{Writing, WritingAs, Pathing, PathingAs};
@@ -256,6 +259,7 @@ fn write_under<'a>(
         return nothing(at);
     };
     suppose(room, w.supposed, further(w.goal, 6));
+    forget(room, plus(w.supposed, 1));
     let m = put(strip, at, b"(3:imp");
     let from = cut(m, strip.len());
     let a = behind(
@@ -291,6 +295,7 @@ fn write_use<'a>(
     let Chosen::Clause(x) = open_clause(room, k, w.supposed, w.top) else {
         return nothing(at);
     };
+    let located = is_plain(rules, goal, terms, x);
     let m = put(strip, at, b"(3:use");
     let m = put_number(strip, m, k);
     let m = put(strip, m, b"(");
@@ -308,12 +313,13 @@ fn write_use<'a>(
             64,
             left,
             m - from,
+            located,
         ),
     );
     close(strip, a)
 }
 
-// The path through the clause at a spot and, behind it, the strip of the body if there is one.
+// The path through the clause at a spot and, behind it, the strip of the body if there is one. Where the path is located, the search has left its numbers behind the clause's frame.
 fn write_path<'a>(
     rules: &'a [u8],
     goal: &'a [u8],
@@ -325,8 +331,9 @@ fn write_path<'a>(
     nest: usize,
     left: usize,
     at: usize,
+    located: bool,
 ) -> Drawn
-    ensures { λ r. ⌜ Pathing (filesOf (now (rules .entry)) (now (goal .entry)) (now (terms .entry))) (now (room .entry)) (now (room .exit)) (now (strip .entry)) (now (strip .exit)) w x nest left at r ⌝ }
+    ensures { λ r. ⌜ Pathing (filesOf (now (rules .entry)) (now (goal .entry)) (now (terms .entry))) (now (room .entry)) (now (room .exit)) (now (strip .entry)) (now (strip .exit)) w x nest left at located r ⌝ }
 {
     if nest == 0 {
         return nothing(at);
@@ -335,7 +342,19 @@ fn write_path<'a>(
         Word::Atom => shut(strip, at),
         Word::Imp => write_body(rules, goal, terms, room, strip, w, x, left, at),
         Word::And => path_and(rules, goal, terms, room, strip, w, x, nest - 1, left, at),
-        Word::All => path_all(rules, goal, terms, room, strip, w, x, nest - 1, left, at),
+        Word::All => path_all(
+            rules,
+            goal,
+            terms,
+            room,
+            strip,
+            w,
+            x,
+            nest - 1,
+            left,
+            at,
+            located,
+        ),
         _ => nothing(at),
     }
 }
@@ -352,7 +371,7 @@ fn write_body<'a>(
     left: usize,
     at: usize,
 ) -> Drawn
-    ensures { λ r. ⌜ ((nest : ℕ) → PathingAs W.Imp (filesOf (now (rules .entry)) (now (goal .entry)) (now (terms .entry))) (now (room .entry)) (now (room .exit)) (now (strip .entry)) (now (strip .exit)) w x nest left at r) ⌝ }
+    ensures { λ r. ⌜ ((nest : ℕ) → PathingAs W.Imp (filesOf (now (rules .entry)) (now (goal .entry)) (now (terms .entry))) (now (room .entry)) (now (room .exit)) (now (strip .entry)) (now (strip .exit)) w x nest left at false r) ⌝ }
 {
     let m = put(strip, at, b")");
     let body = Where {
@@ -390,7 +409,7 @@ fn path_and<'a>(
     left: usize,
     at: usize,
 ) -> Drawn
-    ensures { λ r. ⌜ PathingAs W.And (filesOf (now (rules .entry)) (now (goal .entry)) (now (terms .entry))) (now (room .entry)) (now (room .exit)) (now (strip .entry)) (now (strip .exit)) w x nest left at r ⌝ }
+    ensures { λ r. ⌜ PathingAs W.And (filesOf (now (rules .entry)) (now (goal .entry)) (now (terms .entry))) (now (room .entry)) (now (room .exit)) (now (strip .entry)) (now (strip .exit)) w x nest left at false r ⌝ }
 {
     let After::Next(n) = past_part(rules, goal, terms, x, 6) else {
         return nothing(at);
@@ -411,6 +430,7 @@ fn path_and<'a>(
                 nest,
                 left,
                 m - from,
+                false,
             ),
         );
     }
@@ -429,6 +449,7 @@ fn path_and<'a>(
             nest,
             left,
             m - from,
+            false,
         ),
     )
 }
@@ -445,10 +466,11 @@ fn path_all<'a>(
     nest: usize,
     left: usize,
     at: usize,
+    located: bool,
 ) -> Drawn
-    ensures { λ r. ⌜ PathingAs W.All (filesOf (now (rules .entry)) (now (goal .entry)) (now (terms .entry))) (now (room .entry)) (now (room .exit)) (now (strip .entry)) (now (strip .exit)) w x nest left at r ⌝ }
+    ensures { λ r. ⌜ PathingAs W.All (filesOf (now (rules .entry)) (now (goal .entry)) (now (terms .entry))) (now (room .entry)) (now (room .exit)) (now (strip .entry)) (now (strip .exit)) w x nest left at located r ⌝ }
 {
-    let i = first_through(rules, goal, terms, room, w, x, nest, left);
+    let i = number_through(rules, goal, terms, room, w, x, nest, left, located);
     push(room, plus(x.base, x.count), Binding::Candidate(i));
     let m = put_number(strip, at, i as usize);
     let from = cut(m, strip.len());
@@ -465,6 +487,7 @@ fn path_all<'a>(
             nest,
             left,
             m - from,
+            located,
         ),
     )
 }

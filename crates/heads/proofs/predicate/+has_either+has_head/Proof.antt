@@ -6,7 +6,7 @@ use mathlib.Core.Path.{refl}
 use Rattle.packet.specs.declared.Kind.the-variants as K
 use Rattle.packet.specs.declared.Word.the-variants as W
 use Rattle.packet.specs.Table.{rows, rank}
-use Rattle.packet.proofs.TableLaws.{no-row}
+use Rattle.rows.proofs.TableLaws.{no-row}
 use Rattle.heads.proofs.PredicateLaws.{no-nest, by-word, by-other, atom-head, all-head, and-lost, and-first, and-second}
 use borrow.Fn.Kinds.{In}
 use borrow.Fn.PlainCycle.{Measures, is, falls, and}
@@ -18,9 +18,9 @@ use Rattle.heads.proofs.predicate.has_head.Kinds as has-head-kinds
 use Rattle.heads.proofs.predicate.+has_either+has_head.Lts-has_head as has-head-lts
 use Rattle.heads.proofs.predicate.behind_imp.Reads as behind-imp-reads
 use Rattle.heads.proofs.predicate.same_there.Reads as same-there-reads
-use Rattle.room.proofs.further.Reads as further-reads
-use Rattle.room.proofs.past_part.Reads as past-part-reads
-use Rattle.room.proofs.word_there.Reads as word-there-reads
+use Rattle.places.proofs.further.Reads as further-reads
+use Rattle.places.proofs.past_part.Reads as past-part-reads
+use Rattle.places.proofs.word_there.Reads as word-there-reads
 use Rattle.heads.proofs.predicate.+has_either+has_head.{statement}
 use Rattle.heads.proofs.predicate.+has_either+has_head.Tie.{close}
 

@@ -7,8 +7,8 @@ use Rattle.heads.proofs.predicate.behind_imp.Tie as tie
 use Rattle.heads.proofs.predicate.behind_imp.Reads as reads
 use Rattle.heads.proofs.predicate.behind_imp.Lts as lts
 use Rattle.heads.proofs.predicate.same_there.Reads as same-there-reads
-use Rattle.room.proofs.further.Reads as further-reads
-use Rattle.room.proofs.past_part.Reads as past-part-reads
+use Rattle.places.proofs.further.Reads as further-reads
+use Rattle.places.proofs.past_part.Reads as past-part-reads
 
 -- src/predicate.rt:93:26
 past-part-requires : tie.Need-past-part-requires

@@ -2,7 +2,7 @@
 use Prim.Native.Nat.{_-_}
 use lib.ListN.{length}
 use borrow.Author.Tests.{not-true, not-false}
-use Rattle.room.proofs.RestLaws.{past-on}
+use Rattle.equal.proofs.RestLaws.{past-on}
 use Rattle.heads.proofs.PredicateLaws.{LeftAt, left-start, left-short, left-lost, left-lost-too, left-next, left-end}
 use native.Mathlib.Omega.{arith}
 use borrow.Author.Needs.{needs}

@@ -2,7 +2,7 @@
 use Prim.Native.Nat.{_-_}
 use lib.ListN.{length}
 use borrow.Author.Tests.{not-true, not-false}
-use Rattle.room.proofs.RestLaws.{past-on}
+use Rattle.equal.proofs.RestLaws.{past-on}
 use Rattle.keys.proofs.AtomLaws.{RowLeft, row-start, row-lost, row-next, row-end}
 use borrow.Author.Needs.{needs}
 use Rattle.keys.proofs.atom.row_key.Statement.{statement}

@@ -2,7 +2,7 @@
 use mathlib.Core.Path.{refl}
 use Rattle.packet.specs.declared.Kind.the-variants as K
 use Rattle.packet.specs.Table.{rows, rank}
-use Rattle.packet.proofs.TableLaws.{no-row}
+use Rattle.rows.proofs.TableLaws.{no-row}
 use Rattle.keys.proofs.RuleLaws.{clause-never, clause-atom, clause-imp, clause-and, clause-all, clause-other}
 use borrow.Author.Needs.{needs}
 use Prim.Native.Nat.{ℕ, _<_}
@@ -14,7 +14,7 @@ use Rattle.keys.proofs.rule.+clause_key.Lts-clause_key as clause-key-lt
 use Rattle.keys.proofs.rule.behind_imp.Reads as behind-imp-reads
 use Rattle.keys.proofs.rule.head_key.Reads as head-key-reads
 use Rattle.keys.proofs.term.from.Reads as from-reads
-use Rattle.packet.proofs.word_at.Reads as word-at-reads
+use Rattle.reader.proofs.word_at.Reads as word-at-reads
 use Rattle.keys.proofs.rule.+clause_key.{statement}
 use Rattle.keys.proofs.rule.+clause_key.Tie.{close}
 

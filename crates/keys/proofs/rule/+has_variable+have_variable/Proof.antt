@@ -1,7 +1,7 @@
 -- `has_variable` and `have_variable` of src/rule.rt meet their contracts: the nesting that is left falls. Assumes nothing.
 use lib.ListN.{length}
 use borrow.Author.Tests.{not-true, not-false}
-use Rattle.room.proofs.RestLaws.{past-on}
+use Rattle.equal.proofs.RestLaws.{past-on}
 use Rattle.keys.proofs.RuleLaws.{HaveLeft, has-never, is-variable, has-lost, has-rest, have-start, have-found, have-lost, have-next, have-end}
 use borrow.Author.Needs.{needs}
 use Prim.Native.Nat.{ℕ, _<_, _+_, _-_, _*_}

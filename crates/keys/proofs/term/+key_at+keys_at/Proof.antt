@@ -1,7 +1,7 @@
 -- `key_at` and `keys_at` of src/term.rt meet their contracts: the nesting that is left falls. Assumes nothing.
 use lib.ListN.{length}
 use borrow.Author.Tests.{not-true, not-false}
-use Rattle.room.proofs.RestLaws.{past-on}
+use Rattle.equal.proofs.RestLaws.{past-on}
 use Rattle.keys.proofs.WalkLaws.{KeysLeft, key-never, key-known, key-rest, keys-start, keys-lost, keys-next, keys-end}
 use borrow.Author.Needs.{needs}
 use Prim.Native.Nat.{ℕ, _<_, _+_, _-_, _*_}

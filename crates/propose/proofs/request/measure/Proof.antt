@@ -1,4 +1,4 @@
--- `measure` of src/request.rt: the first strip drawn from place 0 on, for its measures.
+-- `measure` of src/request.rt: the first strip drawn from place 0 on, for its measures and its bytes.
 use Rattle.propose.proofs.PartsLaws.{measured}
 use borrow.Author.Needs.{needs}
 use Rattle.propose.proofs.request.measure.Statement.{statement}

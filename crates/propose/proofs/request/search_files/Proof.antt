@@ -21,9 +21,6 @@ enum-known-reason c = search needs
 enum-told : tie.Need-enum-told
 enum-told c = search needs
 
-slice-aggregate-search-goal : tie.Need-slice-aggregate-search-goal
-slice-aggregate-search-goal c = search needs
-
 search-goal-requires : tie.Need-search-goal-requires
 search-goal-requires c κs = search needs
 
@@ -41,10 +38,10 @@ same-length-2 c = search needs
 
 returns-3 : tie.Need-returns-3
 returns-3 c =
-    let x = c .before .before .before .before .before .before .before .before .before .before .before .before .before .before .before .before .before .before .args in
-    let y = c .before .before .before .before .before .before .before .before .before .before .before .read-books in
-    let s = c .before .before .before .before .before .search-goal in
-    files-read (x .height) (x .rules .now) (x .goal .now) (x .terms .now) (x .room .now) (x .strip .now) (c .before .before .before .before .before .before .before .before .before .before .before .before .if1 .left) (y .result) (y .ensures) (s .last .1 .1 .1 .1 .0) (s .result) (c .before .before .before .before .before .before .before .before .before .enum-told .given .1) (s .ensures)
+    let x = c .before .before .before .before .before .before .before .before .before .before .before .before .before .before .before .before .args in
+    let y = c .before .before .before .before .before .before .before .before .before .read-books in
+    let s = c .before .before .before .before .search-goal in
+    files-read (x .height) (x .rules .now) (x .goal .now) (x .terms .now) (x .room .now) (x .strip .now) (c .before .before .before .before .before .before .before .before .before .before .if1 .left) (y .result) (y .ensures) (s .last .1 .1 .1 .1 .0) (s .result) (c .before .before .before .before .before .before .before .enum-told .given .1) (s .ensures)
 
 pub search-files-spec : {M : Type 1} → statement M
 search-files-spec =
@@ -55,7 +52,6 @@ search-files-spec =
     read-books-requires
     enum-known-reason
     enum-told
-    slice-aggregate-search-goal
     search-goal-requires
     returns-2
     same-length

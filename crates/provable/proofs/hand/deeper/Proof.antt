@@ -5,7 +5,7 @@ use Rattle.provable.proofs.hand.deeper.Statement.{statement}
 use Rattle.provable.proofs.hand.deeper.Tie as tie
 use Rattle.provable.proofs.hand.deeper.Reads as reads
 use Rattle.provable.proofs.hand.deeper.Lts as lts
-use Rattle.room.proofs.plus.Reads as plus-reads
+use Rattle.places.proofs.plus.Reads as plus-reads
 
 -- src/hand.rt:89:13
 plus-requires : tie.Need-plus-requires

@@ -9,10 +9,10 @@ use Rattle.provable.proofs.plain.parts_of.Kinds as parts-of-kinds
 use Rattle.provable.proofs.plain.+parts_of.Lts-parts_of as parts-of-lts
 use Rattle.provable.proofs.hand.deeper.Reads as deeper-reads
 use Rattle.provable.proofs.plain.no_parts.Reads as no-parts-reads
-use Rattle.room.proofs.further.Reads as further-reads
-use Rattle.room.proofs.past_part.Reads as past-part-reads
-use Rattle.room.proofs.plus.Reads as plus-reads
-use Rattle.room.proofs.word_there.Reads as word-there-reads
+use Rattle.places.proofs.further.Reads as further-reads
+use Rattle.places.proofs.past_part.Reads as past-part-reads
+use Rattle.places.proofs.plus.Reads as plus-reads
+use Rattle.places.proofs.word_there.Reads as word-there-reads
 use Rattle.provable.proofs.plain.+parts_of.{statement}
 use Rattle.provable.proofs.plain.+parts_of.Tie.{close}
 

@@ -4,7 +4,7 @@ use Rattle.provable.proofs.plain.body_place.Statement.{statement}
 use Rattle.provable.proofs.plain.body_place.Tie as tie
 use Rattle.provable.proofs.plain.body_place.Reads as reads
 use Rattle.provable.proofs.plain.body_place.Lts as lts
-use Rattle.room.proofs.plus.Reads as plus-reads
+use Rattle.places.proofs.plus.Reads as plus-reads
 
 -- src/plain.rt:116:14
 plus-requires : tie.Need-plus-requires

@@ -14,7 +14,7 @@ use Rattle.provable.proofs.plain.settle.Lts as lts
 use Rattle.provable.proofs.plain.word_of.Reads as word-of-reads
 use Rattle.unset.proofs.forced_by.Reads as forced-by-reads
 use Rattle.room.proofs.push.Reads as push-reads
-use Rattle.room.proofs.may_use.Reads as may-use-reads
+use Rattle.start.proofs.may_use.Reads as may-use-reads
 
 abbrev Inv-loop : tie.InvT-loop
 Inv-loop rules goal terms room₀ w p v₀ room v = (v ≤ p .own) × (length room ≡ length room₀) × SettledTo (filesOf rules goal terms) room₀ w p room v

@@ -5,7 +5,7 @@ use Rattle.provable.proofs.plain.word_of.Statement.{statement}
 use Rattle.provable.proofs.plain.word_of.Tie as tie
 use Rattle.provable.proofs.plain.word_of.Reads as reads
 use Rattle.provable.proofs.plain.word_of.Lts as lts
-use Rattle.room.proofs.plus.Reads as plus-reads
+use Rattle.places.proofs.plus.Reads as plus-reads
 
 -- src/plain.rt:91:29
 sub-plus : tie.Need-sub-plus

@@ -1,102 +1,80 @@
--- `verbatim` (src/text.rt): each answer is one law of TextLaws.
+-- `verbatim` (src/text.rt): a length of one digit is a law of ShortLaws, and any other is what `verbatim_long` finds.
+use Prim.Native.Nat.{_+_}
 use mathlib.Core.Path.{sym, _∙_}
-use borrow.Author.Tests.{not-true, not-false}
-use Rattle.sexp.proofs.TextLaws.{stuck-end, stuck-digit, stuck-number, stuck-colon, stuck-octets, spans}
+use lib.ListN.{getD}
+use borrow.Author.Tests.{eqb-true}
+use Rattle.sexp.proofs.DecimalLaws.{digit-low, digit-high}
+use Rattle.sexp.proofs.ShortLaws.{short-spans}
 use native.Mathlib.Omega.{arith}
 use borrow.Author.Needs.{needs}
 use Rattle.sexp.proofs.text.verbatim.Statement.{statement}
 use Rattle.sexp.proofs.text.verbatim.Tie as tie
-use Rattle.sexp.proofs.text.verbatim.Reads as reads
-use Rattle.sexp.proofs.text.verbatim.Lts as lts
-use Rattle.sexp.proofs.decimal.digit.Reads as digit-reads
-use Rattle.sexp.proofs.decimal.number.Reads as number-reads
 
--- src/text.rt:22:9
-returns : tie.Need-returns
-returns c = stuck-end (c .before .before .args .s .now) (c .before .before .args .at) (omega arith)
+sub-if1 : tie.Need-sub-if1
+sub-if1 c = search needs
 
--- src/text.rt:24:15
+add-if2 : tie.Need-add-if2
+add-if2 c = search needs
+
+shared-slice-read-if2 : tie.Need-shared-slice-read-if2
+shared-slice-read-if2 c = search needs
+
 shared-slice-read-digit : tie.Need-shared-slice-read-digit
 shared-slice-read-digit c = search needs
 
--- src/text.rt:24:9
 digit-requires : tie.Need-digit-requires
 digit-requires c κs = search needs
 
--- src/text.rt:25:9
+shared-slice-read-count : tie.Need-shared-slice-read-count
+shared-slice-read-count c = search needs
+
+sub-count : tie.Need-sub-count
+sub-count c = let x = c .before .before .before .before .before .before .before .before .args in digit-low (getD (x .s .now) (x .at) 0) (sym (c .before .before .digit .ensures) ∙ c .before .if3 .taken)
+
+cast-count : tie.Need-cast-count
+cast-count c = let x = c .before .before .before .before .before .before .before .before .args in let h = digit-high (getD (x .s .now) (x .at) 0) (sym (c .before .before .digit .ensures) ∙ c .before .if3 .taken) in omega arith
+
+sub-if4 : tie.Need-sub-if4
+sub-if4 c = search needs
+
+sub-if4-2 : tie.Need-sub-if4-2
+sub-if4-2 c = search needs
+
+add-t21 : tie.Need-add-t21
+add-t21 c = search needs
+
+add-t22 : tie.Need-add-t22
+add-t22 c = search needs
+
+add-t23 : tie.Need-add-t23
+add-t23 c = search needs
+
+returns : tie.Need-returns
+returns c = let x = c .before .before .before .before .before .before .before .before .before .args in let l = c .before .before .before .before .before .before .before .if1 .taken in short-spans (x .s .now) (x .at) (omega arith) (sym (c .before .before .before .digit .ensures) ∙ c .before .before .if3 .taken) (eqb-true (getD (x .s .now) (x .at + 1) 0) 58 (c .before .before .before .before .before .if2 .taken)) (c .if4 .taken) (omega arith)
+
+verbatim-long-requires : tie.Need-verbatim-long-requires
+verbatim-long-requires c κs = search needs
+
 returns-2 : tie.Need-returns-2
-returns-2 c = stuck-digit (c .before .before .before .before .before .args .s .now) (c .before .before .before .before .before .args .at) (omega arith) (sym (c .before .digit .ensures) ∙ not-true _ (c .if2 .taken))
-
--- src/text.rt:27:9
-number-requires : tie.Need-number-requires
-number-requires c κs = (omega arith, sym (c .before .digit .ensures) ∙ not-false _ (c .if2 .left))
-
--- src/text.rt:31:9
-returns-3 : tie.Need-returns-3
-returns-3 c =
-    let x = c .before .before .before .before .before .before .before .args in
-    let r = c .before .number .result in
-    stuck-number (x .s .now) (x .at) (r .value) (r .next) (c .before .number .ensures) (omega arith)
-
--- src/text.rt:33:8
-shared-slice-read-if4 : tie.Need-shared-slice-read-if4
-shared-slice-read-if4 c = let t = c .before .before .number .ensures .digits .inside in omega arith
-
--- src/text.rt:34:9
-returns-4 : tie.Need-returns-4
-returns-4 c =
-    let x = c .before .before .before .before .before .before .before .before .before .args in
-    let r = c .before .before .before .number .result in
-    let t = c .before .before .before .number .ensures .digits .inside in
-    stuck-colon (x .s .now) (x .at) (r .value) (r .next) (c .before .before .before .number .ensures) (omega arith) (c .if4 .taken)
-
--- src/text.rt:36:16
-sub-if5 : tie.Need-sub-if5
-sub-if5 c = let t = c .before .before .before .number .ensures .digits .inside in omega arith
-
--- src/text.rt:37:32
-add-t14 : tie.Need-add-t14
-add-t14 c = let t = c .before .before .before .before .number .ensures .digits .inside in omega arith
-
--- src/text.rt:37:46
-add-t15 : tie.Need-add-t15
-add-t15 c = let t = c .before .before .before .before .number .ensures .digits .inside in omega arith
-
--- src/text.rt:37:46
-add-t16 : tie.Need-add-t16
-add-t16 c = let t = c .before .before .before .before .number .ensures .digits .inside in omega arith
-
--- src/text.rt:17:1
-returns-5 : tie.Need-returns-5
-returns-5 c =
-    let x = c .before .before .before .before .before .before .before .before .before .before .args in
-    let r = c .before .before .before .before .number .result in
-    let t = c .before .before .before .before .number .ensures .digits .inside in
-    spans (x .s .now) (x .at) (r .value) (r .next) (c .before .before .before .before .number .ensures) (omega arith) (c .before .if4 .left) (c .if5 .taken) (omega arith)
-
--- src/text.rt:17:1
-returns-6 : tie.Need-returns-6
-returns-6 c =
-    let x = c .before .before .before .before .before .before .before .before .before .before .args in
-    let r = c .before .before .before .before .number .result in
-    let t = c .before .before .before .before .number .ensures .digits .inside in
-    stuck-octets (x .s .now) (x .at) (r .value) (r .next) (c .before .before .before .before .number .ensures) (omega arith) (c .before .if4 .left) (λ h. omega arith) (omega arith)
+returns-2 c = search needs
 
 pub verbatim-spec : {M : Type 1} → statement M
 verbatim-spec =
     tie.close
     (tie.spec
-    returns
+    sub-if1
+    add-if2
+    shared-slice-read-if2
     shared-slice-read-digit
     digit-requires
-    returns-2
-    number-requires
-    returns-3
-    shared-slice-read-if4
-    returns-4
-    sub-if5
-    add-t14
-    add-t15
-    add-t16
-    returns-5
-    returns-6)
+    shared-slice-read-count
+    sub-count
+    cast-count
+    sub-if4
+    sub-if4-2
+    add-t21
+    add-t22
+    add-t23
+    returns
+    verbatim-long-requires
+    returns-2)

@@ -11,7 +11,7 @@ use Rattle.table.proofs.asked.is_this.Statement.{statement}
 use Rattle.table.proofs.asked.is_this.Tie as tie
 use Rattle.table.proofs.asked.is_this.Reads as reads
 use Rattle.table.proofs.asked.is_this.Lts as lts
-use Rattle.room.proofs.same_atoms.Reads as same-atoms-reads
+use Rattle.equal.proofs.same_atoms.Reads as same-atoms-reads
 use Rattle.table.proofs.slot.inside.Reads as inside-reads
 use Rattle.table.proofs.slot.spot.Reads as spot-reads
 use Rattle.table.proofs.words.marks.Reads as marks-reads

@@ -11,7 +11,7 @@ use Rattle.table.proofs.kept.enter.Tie as tie
 use Rattle.table.proofs.kept.enter.Reads as reads
 use Rattle.table.proofs.kept.enter.Lts as lts
 use Rattle.room.proofs.copy.Reads as copy-reads
-use Rattle.room.proofs.plus.Reads as plus-reads
+use Rattle.places.proofs.plus.Reads as plus-reads
 use Rattle.table.proofs.words.hold.Reads as hold-reads
 use Rattle.table.proofs.words.put.Reads as put-reads
 use Rattle.table.proofs.words.source_number.Reads as source-number-reads

@@ -2,9 +2,8 @@
 use borrow.Author.Tests.{not-false}
 use lib.ListN.{length}
 use Rattle.table.specs.Slots.{tableWord, Slot}
-use Rattle.table.specs.Recall.{Forgotten}
 use Rattle.table.proofs.SlotLaws.{inside-bounds, inside-not}
-use Rattle.table.proofs.ForgetLaws.{forgotten-first, forgotten-next, forgotten-only, forgotten-all}
+use Rattle.table.proofs.ForgetLaws.{Forgotten, cleared-first, forgotten-next, cleared-only, forgotten-all}
 use Prim.Native.Nat.{ℕ, _+_, _-_, _%_, _≤_}
 use mathlib.Core.List.{List}
 use mathlib.Core.Path.{_≡_, sym, ap, _∙_, subst}
@@ -25,7 +24,7 @@ abbrev μ-loop : tie.MeasureT-loop
 
 -- src/kept.rt:112:5
 loop-holds : tie.Need-loop-holds Inv-loop μ-loop
-loop-holds c = (omega arith, (omega arith, forgotten-first (c .before .args .room .now) (c .before .args .supposed)))
+loop-holds c = (omega arith, (omega arith, cleared-first (λ (mark : ℕ). mark ≡ c .before .args .supposed + 1 → ⊥) (c .before .args .room .now)))
 
 -- src/kept.rt:112:11
 inside-requires : tie.Need-inside-requires Inv-loop μ-loop
@@ -57,7 +56,7 @@ same-length c = c .before .before .loop .inv .1 .1 .long
 returns : tie.Need-returns Inv-loop μ-loop
 returns c = let x = c .before .before .before .before .args in let l = c .before .before .loop in
     let e = inside-not (c .before .inside .result) (length (l .room)) (l .at) (c .before .inside .ensures) (c .if1 .left) (l .inv .0) in
-    (forgotten-only (x .room .now) (l .room) (x .supposed) (l .at) (l .inv .1 .1), forgotten-all (x .room .now) (l .room) (x .supposed) (l .at) (l .inv .1 .1) e)
+    (cleared-only (λ (mark : ℕ). mark ≡ x .supposed + 1 → ⊥) (x .room .now) (l .room) (l .at) (l .inv .1 .1), forgotten-all (x .room .now) (l .room) (x .supposed) (l .at) (l .inv .1 .1) e)
 
 pub forget-spec : {M : Type 1} → statement M
 forget-spec =

@@ -8,7 +8,7 @@ use Rattle.table.proofs.slot.spot.Statement.{statement}
 use Rattle.table.proofs.slot.spot.Tie as tie
 use Rattle.table.proofs.slot.spot.Reads as reads
 use Rattle.table.proofs.slot.spot.Lts as lts
-use Rattle.room.proofs.plus.Reads as plus-reads
+use Rattle.places.proofs.plus.Reads as plus-reads
 use Rattle.table.proofs.words.source_of.Reads as source-of-reads
 use Rattle.table.proofs.words.word.Reads as word-reads
 

@@ -7,7 +7,7 @@ use Rattle.unset.proofs.head.differs.Statement.{statement}
 use Rattle.unset.proofs.head.differs.Tie as tie
 use Rattle.unset.proofs.head.differs.Reads as reads
 use Rattle.unset.proofs.head.differs.Lts as lts
-use Rattle.room.proofs.same_terms.Reads as same-terms-reads
+use Rattle.equal.proofs.same_terms.Reads as same-terms-reads
 use Rattle.room.proofs.part.Reads as part-reads
 use Rattle.unset.proofs.variables.holds.Reads as holds-reads
 

@@ -1,7 +1,7 @@
 -- `may_be` of src/head.rt meets its contract. Assumes nothing.
 use Rattle.unset.proofs.HeadLaws.{LeftAt, may-be-yes, may-be-no, left-one, left-short, left-differs, left-next, left-end}
 use Rattle.room.specs.Where.{filesOf}
-use Rattle.room.proofs.RestLaws.{past-on}
+use Rattle.equal.proofs.RestLaws.{past-on}
 use borrow.Author.Tests.{not-true, not-false}
 use lib.ListN.{length}
 use Prim.Native.Nat.{_-_}
@@ -12,7 +12,7 @@ use Rattle.unset.proofs.head.may_be.Tie as tie
 use Rattle.unset.proofs.head.may_be.Reads as reads
 use Rattle.unset.proofs.head.may_be.Lts as lts
 use Rattle.room.proofs.part.Reads as part-reads
-use Rattle.room.proofs.further.Reads as further-reads
+use Rattle.places.proofs.further.Reads as further-reads
 use Rattle.sexp.proofs.past.Reads as past-reads
 use Rattle.sexp.proofs.closes.Reads as closes-reads
 use Rattle.sexp.proofs.same_text.Reads as same-text-reads

@@ -2,7 +2,7 @@
 use mathlib.Core.Bool.{true, false}
 use lib.ListN.{length}
 use borrow.Author.Tests.{not-true, not-false}
-use Rattle.room.proofs.RestLaws.{past-on}
+use Rattle.equal.proofs.RestLaws.{past-on}
 use Rattle.room.specs.Spot.{bindingsAt}
 use Rattle.mentions.specs.Open.{asked}
 use Rattle.unset.proofs.VariableLaws.{HeldLeft, held-never, held-flat, held-variable, held-start, held-end, held-found, held-lost, held-next, holding}
@@ -14,7 +14,7 @@ use borrow.Fn.PlainCycle.{Measures, is, falls, and}
 use Rattle.unset.proofs.variables.holds.Reads as holds
 use Rattle.unset.proofs.variables.holds.Kinds as holds-kinds
 use Rattle.unset.proofs.variables.+holds.Lts-holds as holds-lts
-use Rattle.room.proofs.plus.Reads as plus-reads
+use Rattle.places.proofs.plus.Reads as plus-reads
 use Rattle.sexp.proofs.past.Reads as past-reads
 use Rattle.sexp.proofs.closes.Reads as closes-reads
 use Rattle.sexp.proofs.opens.Reads as opens-reads

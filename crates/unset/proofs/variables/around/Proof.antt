@@ -6,7 +6,7 @@ use Rattle.unset.proofs.variables.around.Statement.{statement}
 use Rattle.unset.proofs.variables.around.Tie as tie
 use Rattle.unset.proofs.variables.around.Reads as reads
 use Rattle.unset.proofs.variables.around.Lts as lts
-use Rattle.room.proofs.plus.Reads as plus-reads
+use Rattle.places.proofs.plus.Reads as plus-reads
 use Rattle.sexp.proofs.is_word.Reads as is-word-reads
 
 -- src/variables.rt:75:19

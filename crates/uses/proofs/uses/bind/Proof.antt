@@ -7,7 +7,7 @@ use Rattle.uses.proofs.uses.bind.Statement.{statement}
 use Rattle.uses.proofs.uses.bind.Tie as tie
 use Rattle.uses.proofs.uses.bind.Reads as reads
 use Rattle.uses.proofs.uses.bind.Lts as lts
-use Rattle.room.proofs.may_use.Reads as may-use-reads
+use Rattle.start.proofs.may_use.Reads as may-use-reads
 use Rattle.room.proofs.push.Reads as push-reads
 
 -- src/uses.rt:137:9

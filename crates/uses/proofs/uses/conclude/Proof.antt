@@ -11,7 +11,7 @@ use Rattle.uses.proofs.uses.conclude.Tie as tie
 use Rattle.uses.proofs.uses.conclude.Reads as reads
 use Rattle.uses.proofs.uses.conclude.Lts as lts
 use Rattle.uses.proofs.uses.head_of.Reads as head-of-reads
-use Rattle.room.proofs.same_atoms.Reads as same-atoms-reads
+use Rattle.equal.proofs.same_atoms.Reads as same-atoms-reads
 use Rattle.sexp.proofs.past.Reads as past-reads
 use Rattle.sexp.proofs.closes.Reads as closes-reads
 

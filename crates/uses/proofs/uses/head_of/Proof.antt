@@ -3,7 +3,7 @@ use borrow.Author.Tests.{not-true, not-false}
 use Rattle.basics.specs.Tells.{told-yes, told-no}
 use Rattle.sexp.proofs.AnswerLaws.{past-next, past-nothing}
 use Rattle.room.specs.Spot.{fileOf}
-use Rattle.room.proofs.EqualLaws.{file-length}
+use Rattle.equal.proofs.EqualLaws.{file-length}
 use Rattle.uses.proofs.EndLaws.{head-fact, head-neither, head-lost, head-implies, head-bound}
 use native.Mathlib.Omega.{arith}
 use borrow.Author.Needs.{needs}

@@ -20,45 +20,45 @@ Inv-loop rules goal terms room₀ w left n i₀ room i =
 abbrev μ-loop : tie.MeasureT-loop
 μ-loop rules goal terms room₀ w left n i₀ room i = n - i
 
--- src/first.rt:24:9
+-- src/first.rt:25:9
 candidates-requires : tie.Need-candidates-requires Inv-loop μ-loop
 candidates-requires c κs = search needs
 
--- src/first.rt:26:5
+-- src/first.rt:27:5
 loop-holds : tie.Need-loop-holds Inv-loop μ-loop
 loop-holds c = (omega arith, (refl, laws.with-start))
 
--- src/first.rt:27:12
+-- src/first.rt:28:12
 prove-with-requires : tie.Need-prove-with-requires Inv-loop μ-loop
 prove-with-requires c κs = search needs
 
--- src/first.rt:28:13
+-- src/first.rt:29:13
 same-length : tie.Need-same-length Inv-loop μ-loop
 same-length c = c .before .before .before .prove-with .kept .1 .1 .1 .0 ∙ c .before .before .before .before .before .before .loop .inv .1 .0
 
--- src/first.rt:28:13
+-- src/first.rt:29:13
 returns : tie.Need-returns Inv-loop μ-loop
 returns c = let l = c .before .before .before .before .before .before .loop in
     laws.with-hit (l .i) (c .before .before .before .before .before .before .before .candidates .result) (c .before .before .before .before .before .loop-test .taken) (c .before .before .before .before .before .before .before .candidates .ensures) (l .inv .1 .1) (l .inv .1 .0) (c .before .before .before .prove-with .ensures) (c .if1 .taken)
 
--- src/first.rt:30:9
+-- src/first.rt:31:9
 add-i : tie.Need-add-i Inv-loop μ-loop
 add-i c = search needs
 
--- src/first.rt:26:5
+-- src/first.rt:27:5
 loop-less : tie.Need-loop-less Inv-loop μ-loop
 loop-less c = search needs
 
--- src/first.rt:26:5
+-- src/first.rt:27:5
 loop-again : tie.Need-loop-again Inv-loop μ-loop
 loop-again c = let l = c .before .before .before .before .before .before .loop in
     (omega arith, (c .before .before .before .prove-with .kept .1 .1 .1 .0 ∙ l .inv .1 .0, laws.with-miss (l .i) (c .before .before .before .before .before .before .before .candidates .result) (c .before .before .before .before .before .loop-test .taken) (c .before .before .before .before .before .before .before .candidates .ensures) (l .inv .1 .1) (l .inv .1 .0) (c .before .before .before .prove-with .ensures) (c .if1 .left)))
 
--- src/first.rt:14:1
+-- src/first.rt:15:1
 same-length-2 : tie.Need-same-length-2 Inv-loop μ-loop
 same-length-2 c = c .before .loop .inv .1 .0
 
--- src/first.rt:14:1
+-- src/first.rt:15:1
 returns-2 : tie.Need-returns-2 Inv-loop μ-loop
 returns-2 c = let l = c .before .loop in
     laws.with-none (l .i) (c .before .before .candidates .result) (c .loop-test .left) (c .before .before .candidates .ensures) (l .inv .1 .1)

@@ -6,7 +6,7 @@ use Rattle.writer.proofs.put.behind.Statement.{statement}
 use Rattle.writer.proofs.put.behind.Tie as tie
 use Rattle.writer.proofs.put.behind.Reads as reads
 use Rattle.writer.proofs.put.behind.Lts as lts
-use Rattle.room.proofs.plus.Reads as plus-reads
+use Rattle.places.proofs.plus.Reads as plus-reads
 
 -- src/put.rt:44:13
 plus-requires : tie.Need-plus-requires

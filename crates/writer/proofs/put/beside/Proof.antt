@@ -6,7 +6,7 @@ use Rattle.writer.proofs.put.beside.Statement.{statement}
 use Rattle.writer.proofs.put.beside.Tie as tie
 use Rattle.writer.proofs.put.beside.Reads as reads
 use Rattle.writer.proofs.put.beside.Lts as lts
-use Rattle.room.proofs.plus.Reads as plus-reads
+use Rattle.places.proofs.plus.Reads as plus-reads
 use Rattle.writer.proofs.put.higher.Reads as higher-reads
 
 -- src/put.rt:97:17

@@ -1,0 +1,5 @@
+pub mod HeadLaws
+pub mod FillLaws
+pub mod NoHeadLaws
+pub mod MarkLaws
+pub mod NarrowLaws

@@ -1,0 +1,168 @@
+-- What the rules and the supposed clauses say of the candidates without a mark, one after the other, and all of them together (document 02, Three: no verdict and no strip changes).
+use Prim.Native.Nat.{ℕ, _+_, _-_, _%_, _≤_}
+use native.Mathlib.Omega.{arith}
+use mathlib.Core.Path.{_≡_, refl, sym, _∙_, ap, subst}
+use mathlib.Core.Bool.{Bool, true, false, not, false≢true}
+use mathlib.Core.List.{List, []}
+use mathlib.Core.Option.{Option, none, some}
+use lib.Dec.{ltb}
+use lib.ListN.{length, getD, getElem?, drop}
+use borrow.Author.Tests.{ltb-true, ltb-false, not-true}
+use Rattle.harrop.specs.Formula.{Term, Atom, Clause}
+use Rattle.harrop.specs.Bindings.{Bindings, replacedAtom, sameAtom}
+use Rattle.harrop.specs.Place.{AtHand, Hand, Plain}
+use Rattle.harrop.proofs.ListLaws.{member-below}
+use Rattle.packet.specs.declared.Word.{Word}
+use Rattle.packet.specs.declared.Word.the-variants as W
+use Rattle.packet.specs.Barred.{atomOk, clauseOk}
+use Rattle.reader.specs.WordAt.{WordAt}
+use Rattle.packet.specs.Written.{clauseSexp}
+use Rattle.room.specs.Layout.{rulesWord}
+use Rattle.room.specs.Spot.{bindingsAt, supposedIn}
+use Rattle.equal.specs.Term.{AtomAt}
+use Rattle.room.specs.Where.{Files, Framed, HandIn}
+use Rattle.room.specs.declared.Spot.{Spot}
+use Rattle.room.proofs.FrameLaws.{frame-length}
+use Rattle.room.proofs.WhereLaws.{file-small}
+use Rattle.heads.specs.Predicate.{bytesAt, AtomThere, HasHead}
+use Rattle.heads.proofs.HeadLaws.{clause-says, clause-is}
+use Rattle.keys.specs.Keys.{PredicateKeyAt}
+use Rattle.narrow.specs.Heads.{headOf, HeadIn}
+use Rattle.narrow.specs.Narrow.{NoHead, Gives, Known, Narrows, ByHead, ByRule, ByRules, ByOne, BySupposed, More, Adds, ruleSpot}
+use Rattle.narrow.proofs.FillLaws.{head-nests}
+use Rattle.narrow.proofs.NoHeadLaws.{headless, one-head, other-number, no-variables, head-ok, one-fact}
+use Rattle.narrow.proofs.MarkLaws.{more-none, more-then, gives-more}
+
+atom-there : {f : Files} {x : Spot} {a : Atom} → AtomAt (f .rules) (f .goal) (f .terms) x a → AtomThere f x a
+atom-there X = record { stands = X .stands; shallow = X .shallow }
+
+-- rule k
+module _ (f : Files) (room : List ℕ) (x : Spot) (own v predicate k : ℕ) (marks : List ℕ) where
+  -- an `and` is on the way to its heads: none has the atom's predicate
+  pub rule-headless : {y : Spot} (b : Bool) → y ≡ ruleSpot room (1 + k) → HasHead f y x 64 b → Adds marks marks (not b) (ByRule f room x own v predicate marks k)
+  rule-headless b e H = record {
+    more = more-none marks;
+    told = λ t P ds us a N d m i es G.
+        let there = subst (λ (z : Spot). HasHead f z x 64 b) e H d a (N .booked .shallow k d m) (record { stands = N .booked .rules .starts k d m; shallow = N .booked .shallow k d m; small = N .booked .rules-small }) (atom-there (N .atom)) in
+        headless us es a d (sym there ∙ not-true b t) [];
+  }
+
+  module _ {p : ℕ} (e : p ≡ getD room (3712 + k) 0) (some-key : p ≡ 0 → ⊥) where
+    -- its head has another predicate
+    pub rule-other : (p ≡ predicate → ⊥) → Adds marks marks true (ByRule f room x own v predicate marks k)
+    rule-other other = record { more = more-none marks; told = λ t P ds us a N d m i es G. go P ds us a N d m es (headOf d) refl (N .heads k d m) }
+      where
+        go : PredicateKeyAt f x predicate → (ds : List (Clause Plain)) (us : List Term) (a : Atom) → Known f room ds us x a → (d : Clause Plain) → getElem? ds k ≡ some d → (es : Bindings)
+            → (o : Option Atom) → headOf d ≡ o → HeadIn room (f .rules) k o → NoHead us [] d (replacedAtom us es a)
+        go P ds us a N d m es none z h = absurd (some-key (e ∙ h))
+        go P ds us a N d m es (some b) z h =
+            one-head us (replacedAtom us es a) b (λ bs. other-number us es bs b a (λ w. other (e ∙ h .0 ∙ w ∙ sym (P a (atom-there (N .atom)))))) d z []
+
+    -- its head has no variables, by its number
+    pub rule-fact : {w : ℕ} {y : Spot} {after : List ℕ} (r : Bool) → w ≡ getD room (3200 + k) 0 → (w % 2 ≡ 0 → ⊥) → y ≡ ruleSpot room (3968 + k) → Adds marks after r (ByHead f room x y own v after)
+        → Adds marks after r (ByRule f room x own v predicate after k)
+    rule-fact {w} {y} {after} r g odd j A = record { more = A .more; told = λ t P ds us a N d m i es G. go t ds us a N d m i es G (headOf d) refl (N .heads k d m) }
+      where
+        go : r ≡ true → (ds : List (Clause Plain)) (us : List Term) (a : Atom) → Known f room ds us x a → (d : Clause Plain) → getElem? ds k ≡ some d → (i : ℕ) (es : Bindings) → Gives room us x own v after i es
+            → (o : Option Atom) → headOf d ≡ o → HeadIn room (f .rules) k o → NoHead us [] d (replacedAtom us es a)
+        go t ds us a N d m i es G none z h = absurd (some-key (e ∙ h))
+        go t ds us a N d m i es G (some b) z h =
+            let closed = no-variables d b z (λ q. odd (ap (λ (n : ℕ). n % 2) (g ∙ N .keys .rules k d m) ∙ q)) in
+            let Y : AtomAt (f .rules) (f .goal) (f .terms) (ruleSpot room (3968 + k)) b = record {
+              stands = h .1;
+              shallow = omega (arith, head-nests d b z, N .booked .shallow k d m);
+              few = omega arith;
+              ok = head-ok b closed d 0 z (N .booked .scoped k d m);
+            } in
+            let says = subst (λ (s : Spot). ByHead f room x s own v after) j (A .told t) us a b (file-small (N .booked)) (N .booked .candidates) (N .keys .candidates) (N .atom) Y i es G in
+            one-head us (replacedAtom us es a) b (one-fact us (replacedAtom us es a) b (bindingsAt room (ruleSpot room (3968 + k))) closed says) d z []
+
+-- rule after rule
+module _ (f : Files) (room : List ℕ) (x : Spot) (own v : ℕ) where
+  pub rules-none : (marks : List ℕ) → ByRules f room x own v marks 0
+  rules-none marks ds us a N k d l = absurd (omega arith)
+
+  pub rules-more : {marks after : List ℕ} {predicate k : ℕ} {r : Bool} → PredicateKeyAt f x predicate → ByRules f room x own v marks k → Adds marks after r (ByRule f room x own v predicate after k) → r ≡ true → ByRules f room x own v after (k + 1)
+  rules-more {marks} {after} {predicate} {k} P R A t ds us a N j d l m i es G = go (ltb j k) refl
+    where
+      go : (b : Bool) → ltb j k ≡ b → NoHead us [] d (replacedAtom us es a)
+      go true b = R ds us a N j d (ltb-true j k b) m i es (gives-more (A .more) G)
+      go false b =
+          let same : j ≡ k = omega (arith, ltb-false j k b, l) in
+          A .told t P ds us a N d (subst (λ (n : ℕ). getElem? ds n ≡ some d) same m) i es G
+
+  pub rules-all : {marks : List ℕ} {n k : ℕ} → n ≡ getD room 0 0 → n ≤ k → ByRules f room x own v marks k → ByRules f room x own v marks (getD room rulesWord 0)
+  rules-all e l R ds us a N j d b = R ds us a N j d (omega arith)
+
+-- supposed clause j
+module _ (f : Files) (room : List ℕ) (x : Spot) (own v j : ℕ) (marks : List ℕ) {y : Spot} (e : y ≡ supposedIn room j) where
+  framed : {ds : List (Clause Plain)} {supposed top : ℕ} {c : Hand Plain} → HandIn f room ds supposed top c → (h : AtHand Plain) → getElem? c (length ds + j) ≡ some h → Framed f room y top (clauseSexp (h .clause)) (h .bindings)
+  framed {top = top} T h m = subst (λ (z : Spot). Framed f room z top (clauseSexp (h .clause)) (h .bindings)) (sym e) (T .suppose j h m)
+
+  -- none of its heads has the atom's predicate
+  pub one-headless : (b : Bool) → HasHead f y x 64 b → Adds marks marks (not b) (ByOne f room x own v marks j)
+  one-headless b H = record {
+    more = more-none marks;
+    told = λ t ds us a N supposed top c T h m i es G.
+        let F = framed T h m in
+        let there = H (h .clause) a (omega (arith, F .shallow)) (record { stands = F .stands; shallow = omega (arith, F .shallow); small = file-small (N .booked) (y .source) }) (atom-there (N .atom)) in
+        headless us es a (h .clause) (sym there ∙ not-true b t) (h .bindings);
+  }
+
+  -- it is an atom, in a frame that is set
+  atom-at : {top : ℕ} {bs : Bindings} (b : Atom) {d : Clause Plain} → d ≡ Clause.atomD b → Framed f room y top (clauseSexp d) bs → clauseOk (length bs) d ≡ true → AtomAt (f .rules) (f .goal) (f .terms) y b
+  atom-at {top} {bs} b z = subst (λ (d : Clause Plain). Framed f room y top (clauseSexp d) bs → clauseOk (length bs) d ≡ true → AtomAt (f .rules) (f .goal) (f .terms) y b) (sym z) λ F o. record {
+    stands = F .stands;
+    shallow = omega (arith, F .shallow);
+    few = omega (arith, F .shallow);
+    ok = subst (λ (n : ℕ). atomOk n b ≡ true) (sym (ap length (F .holds)) ∙ frame-length room (y .base) (y .count)) o;
+  }
+
+  pub one-atom : {after : List ℕ} (r : Bool) (k : Word) → WordAt (drop (y .at) (bytesAt f y)) 1 k → k ≡ W.Atom → Adds marks after r (ByHead f room x y own v after) → Adds marks after r (ByOne f room x own v after j)
+  one-atom {after} r k q g A = record {
+    more = A .more;
+    told = λ t ds us a N supposed top c T h m i es G.
+        let F = framed T h m in
+        let (b, z) = clause-is (h .clause) (sym (clause-says (bytesAt f y) (y .at) (h .clause) k (F .stands) q) ∙ g) in
+        let says = A .told t us a b (file-small (N .booked)) (N .booked .candidates) (N .keys .candidates) (N .atom) (atom-at b z F (T .scoped j h m)) i es G in
+        subst (λ (d : Clause Plain). NoHead us (h .bindings) d (replacedAtom us es a)) (sym z) (subst (λ (bs : Bindings). sameAtom (replacedAtom us bs b) (replacedAtom us es a) ≡ false) (F .holds) says);
+  }
+
+-- clause after clause that is supposed
+module _ (f : Files) (room : List ℕ) (x : Spot) (own v : ℕ) where
+  pub supposed-none : (marks : List ℕ) → BySupposed f room x own v marks 0
+  supposed-none marks ds us a N supposed top c T j h l = absurd (omega arith)
+
+  pub supposed-more : {marks after : List ℕ} {j : ℕ} {r : Bool} → BySupposed f room x own v marks j → Adds marks after r (ByOne f room x own v after j) → r ≡ true → BySupposed f room x own v after (j + 1)
+  supposed-more {marks} {after} {j} R A t ds us a N supposed top c T k h l m i es G = go (ltb k j) refl
+    where
+      go : (b : Bool) → ltb k j ≡ b → NoHead us (h .bindings) (h .clause) (replacedAtom us es a)
+      go true b = R ds us a N supposed top c T k h (ltb-true k j b) m i es (gives-more (A .more) G)
+      go false b =
+          let same : k ≡ j = omega (arith, ltb-false k j b, l) in
+          A .told t ds us a N supposed top c T h (subst (λ (n : ℕ). getElem? c (length ds + n) ≡ some h) same m) i es G
+
+  pub supposed-all : {marks : List ℕ} {n k : ℕ} → n ≤ k → BySupposed f room x own v marks k → BySupposed f room x own v marks n
+  supposed-all l R ds us a N supposed top c T j h b = R ds us a N supposed top c T j h (omega arith)
+
+  -- all clauses at hand
+  pub narrowed : {mid after : List ℕ} {many : ℕ} → ByRules f room x own v mid (getD room rulesWord 0) → More mid after → BySupposed f room x own v after many → Narrows f room many x own v after
+  narrowed {mid} {after} {many} R M S ds us a N top c T k h m i es G = go (ltb k (length ds)) refl
+    where
+      go : (b : Bool) → ltb k (length ds) ≡ b → NoHead us (h .bindings) (h .clause) (replacedAtom us es a)
+      go true b =
+          let l = ltb-true k (length ds) b in
+          let (z, g) = T .rule k h l m in
+          subst (λ (bs : Bindings). NoHead us bs (h .clause) (replacedAtom us es a)) (sym z) (R ds us a N k (h .clause) (omega (arith, l, N .booked .rules .counted)) g i es (gives-more M G))
+      go false b =
+          let l = ltb-false k (length ds) b in
+          let w = member-below c k h m in
+          let same : k ≡ length ds + (k - length ds) = omega arith in
+          S ds us a N many top c T (k - length ds) h (omega (arith, T .number)) (subst (λ (n : ℕ). getElem? c n ≡ some h) same m) i es G
+
+-- all of them have said something, or one says nothing
+pub adds-all : {a b : List ℕ} {says : Type 0} → More a b → says → Adds a b true says
+adds-all M S = record { more = M; told = λ e. S }
+
+pub adds-stop : {a b c : List ℕ} {r : Bool} {says other : Type 0} → More a b → Adds b c r says → Adds a c false other
+adds-stop M A = record { more = more-then M (A .more); told = λ e. absurd (false≢true e) }

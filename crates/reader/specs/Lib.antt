@@ -1,0 +1,5 @@
+pub mod Key
+pub mod WordAt
+pub mod Shape
+pub mod Bars
+pub mod Judged

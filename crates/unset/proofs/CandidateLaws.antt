@@ -1,0 +1,133 @@
+-- The candidates beside the term at a spot: which of them is the term, by its number and then by its bytes, and the lowest that is (document 02, Three).
+use Prim.Native.Nat.{ℕ, _+_, _≤_, _<_}
+use mathlib.Core.Path.{_≡_, refl, sym, _∙_, ap, subst}
+use mathlib.Core.Bool.{Bool, true, false, false≢true}
+use mathlib.Core.List.{List}
+use mathlib.Core.Option.{some}
+use native.Mathlib.Omega.{arith}
+use lib.Dec.{ltb}
+use lib.ListN.{getD, drop, getElem?}
+use borrow.Author.Tests.{ltb-true, ltb-false}
+use Rattle.basics.specs.Tells.{Tells, told-yes}
+use Rattle.basics.specs.Text.{octets}
+use Rattle.harrop.specs.declared.Binding.{Binding}
+use Rattle.harrop.specs.declared.Binding.the-variants.{Candidate}
+use Rattle.harrop.specs.Formula.{Term}
+use Rattle.harrop.specs.Bindings.{meant, valueOf, replaced, sameTerm}
+use Rattle.harrop.proofs.ListLaws.{below-member}
+use Rattle.harrop.proofs.SameLaws.{same-terms-equal, equal-terms-same}
+use Rattle.sexp.specs.declared.words.Value.{Value}
+use Rattle.sexp.specs.declared.words.Value.the-variants as Val
+use Rattle.sexp.specs.Sexp.{str, Stands}
+use Rattle.sexp.specs.WordsAt.{NumberAt}
+use Rattle.packet.specs.Written.{termSexp}
+use Rattle.room.specs.Frame.{boundTo}
+use Rattle.room.specs.Spot.{bindingsAt}
+use Rattle.room.specs.Table.{CandidatesIn}
+use Rattle.equal.specs.Term.{TermAt, SameTerms}
+use Rattle.room.specs.Where.{Files}
+use Rattle.room.specs.declared.Source.the-variants as Source
+use Rattle.room.specs.declared.Spot.{Spot}
+use Rattle.room.proofs.FrameLaws.{bound-means}
+use Rattle.room.proofs.NestLaws.{replaced-nests}
+use Rattle.equal.proofs.SeeLaws.{number-read}
+use Rattle.equal.proofs.TermLaws.{part-stands, term-word, term-text, text-once, closed-stays}
+use Rattle.heads.specs.Predicate.{bytesAt}
+use Rattle.keys.specs.Key.{termKey}
+use Rattle.keys.specs.Keys.{CandidateKeys, TermKeyAt}
+use Rattle.keys.proofs.WalkLaws.{candidate-meant, no-f-v, no-e-v}
+use Rattle.unset.specs.declared.Forced.the-variants as F
+use Rattle.unset.specs.Head.{candidateSpot, Numbered, IsCandidate, NoneOf, LowestOf, LowestAt, BoundTo, CandidateAt}
+use Rattle.unset.proofs.HeadLaws.{never}
+
+-- a spot of the terms file with no frame
+abbrev pub termsSpot : ℕ → Spot
+termsSpot at = record { source = Source.Terms; at = at; base = 0; count = 0 }
+
+-- another number, another term; else the bytes decide
+module _ (f : Files) (room : List ℕ) (y : Spot) (key i : ℕ) where
+  pub another-number : {k : ℕ} → k ≡ getD room (3456 + i) 0 → (k ≡ key → ⊥) → IsCandidate f room y key i false
+  another-number e d us u C K T q t m =
+      let w = replaced us (bindingsAt room y) u in
+      sym (never (sameTerm t w) (λ z. d (e ∙ K i t m ∙ ap termKey (same-terms-equal t w z) ∙ sym q)))
+
+  pub bytes-decide : {z : Spot} {r : Bool} → z ≡ candidateSpot room i → SameTerms (f .rules) (f .goal) (f .terms) room z y 128 r → IsCandidate f room y key i r
+  bytes-decide {r = r} e M us u C K T q t m =
+      let here : TermAt (f .rules) (f .goal) (f .terms) (candidateSpot room i) t = record { stands = C .starts i t m; shallow = C .shallow i t m; few = omega arith; holds = true; ok = C .closed i t m } in
+      let n = replaced-nests us (C .shallow) (bindingsAt room (candidateSpot room i)) t in
+      let M′ = subst (λ (v : Spot). SameTerms (f .rules) (f .goal) (f .terms) room v y 128 r) e M in
+      M′ us t u C here T (omega (arith, n, C .shallow i t m))
+      ∙ ap (λ (v : Term). sameTerm v (replaced us (bindingsAt room y) u)) (closed-stays us (bindingsAt room (candidateSpot room i)) true t (C .closed i t m))
+
+-- the candidates, one after the other: none of the first i is the term at the spot
+abbrev pub NoneBelow : Files → List ℕ → Spot → ℕ → ℕ → Type 0
+NoneBelow f room y key i = Numbered f room y key (λ us w. NoneOf us i w)
+
+module _ (f : Files) (room : List ℕ) (y : Spot) (key : ℕ) where
+  pub none-first : NoneBelow f room y key 0
+  none-first us u C K T q j l e = absurd (omega arith)
+
+  pub lowest-none : {n i : ℕ} → n ≤ i → NoneBelow f room y key i → LowestAt f room y key n n
+  lowest-none l N us u C K T q few = record { few = omega arith; is = λ h. absurd (omega arith); lowest = λ j h. N us u C K T q j (omega arith) }
+
+  module _ (i : ℕ) {r : Bool} (M : IsCandidate f room y key i r) where
+    pub lowest-found : {n : ℕ} → i < n → r ≡ true → NoneBelow f room y key i → LowestAt f room y key n i
+    lowest-found l o N us u C K T q few =
+        let w = replaced us (bindingsAt room y) u in
+        let (t, e) = below-member us i (omega arith) in
+        record { few = omega arith; is = λ h. e ∙ ap some (same-terms-equal t w (sym (M us u C K T q t e) ∙ o)); lowest = N us u C K T q }
+
+    pub none-next : r ≡ false → NoneBelow f room y key i → NoneBelow f room y key (i + 1)
+    none-next o N us u C K T q j l e = go (ltb j i) refl
+      where
+        go : (b : Bool) → ltb j i ≡ b → ⊥
+        go true h = N us u C K T q j (ltb-true j i h) e
+        go false h =
+            let k : j ≡ i = omega (arith, ltb-false j i h, l) in
+            let w = replaced us (bindingsAt room y) u in
+            false≢true (sym o ∙ M us u C K T q w (subst (λ (n : ℕ). getElem? us n ≡ some w) k e) ∙ equal-terms-same w w refl)
+
+-- the candidate that the variable at a spot is bound to
+module _ (f : Files) (room : List ℕ) (y : Spot) where
+  pub bound-nowhere : BoundTo f room y 4294967295
+  bound-nowhere us u C T l = absurd (omega (arith, C .few))
+
+  pub bound-there : {s : List ℕ} {r : Bool} {v : Value} {j c : ℕ} {b : Binding} → s ≡ drop (y .at) (bytesAt f y) → Tells r (Stands s 1 (str (octets "v"))) → r ≡ true → NumberAt s 4 v → v ≡ Val.Is j
+      → b ≡ boundTo (bindingsAt room y) j → b ≡ Candidate c → BoundTo f room y c
+  bound-there {s} {r} {v} {j} {c} {b} e h i n k q o us u C T l =
+      let (t, m) = below-member us c l in
+      m ∙ ap some (candidate-meant us c t m ∙ sym (go u T (subst (λ (p : List ℕ). Stands p 0 (termSexp u)) (sym e) (part-stands (T .stands)))))
+    where
+      go : (u : Term) → TermAt (f .rules) (f .goal) (f .terms) y u → Stands s 0 (termSexp u) → replaced us (bindingsAt room y) u ≡ meant us (Candidate c)
+      go (Term.v m) T g =
+          let l = ltb-true m (y .count) (T .ok) in
+          let z = number-read m v (term-text (Term.v m) g) (omega (arith, l, T .few)) n in
+          let same : j ≡ m = cc in
+          ap (valueOf us (bindingsAt room y)) (sym same) ∙ sym (bound-means us (bindingsAt room y) j) ∙ ap (meant us) (sym q ∙ o)
+      go (Term.f g′ ts) T g = absurd (no-f-v (text-once (term-word (Term.f g′ ts) g) (told-yes i h)))
+      go (Term.e m) T g = absurd (no-e-v (text-once (term-word (Term.e m) g) (told-yes i h)))
+
+  -- the lowest of those before it, or itself
+  pub bound-serves : {n c k : ℕ} (r : ℕ) → n ≡ getD room 257 0 → BoundTo f room y c → c < n → k ≡ getD room (3456 + c) 0 → LowestAt f room y k c r → CandidateAt f room y (F.Candidate r)
+  bound-serves {c = c} r e B l q L us u C K T =
+      let w = replaced us (bindingsAt room y) u in
+      let m = B us u C T (omega (arith, C .counted)) in
+      let low = L us u C K T (q ∙ K c w m) (omega (arith, C .counted)) in
+      (go (ltb r c) refl w m low, low .lowest)
+    where
+      go : (b : Bool) → ltb r c ≡ b → (w : Term) → getElem? us c ≡ some w → LowestOf us c w r → getElem? us r ≡ some w
+      go true h w m low = low .is (ltb-true r c h)
+      go false h w m low =
+          let same : c ≡ r = omega (arith, ltb-false r c h, low .few) in
+          subst (λ (j : ℕ). getElem? us j ≡ some w) same m
+
+  -- the lowest of all, or none
+  module _ {n k : ℕ} (r : ℕ) (e : n ≡ getD room 257 0) (t : TermKeyAt f room y k) (L : LowestAt f room y k n r) where
+    low : (us : List Term) (u : Term) → CandidatesIn room (f .terms) us → CandidateKeys room us → TermAt (f .rules) (f .goal) (f .terms) y u → LowestOf us n (replaced us (bindingsAt room y) u) r
+    low us u C K T = L us u C K T (t us u C K T) (omega (arith, C .counted))
+
+    pub lowest-serves : r < n → CandidateAt f room y (F.Candidate r)
+    lowest-serves l us u C K T = (low us u C K T .is l, low us u C K T .lowest)
+
+    pub never-serves : n ≤ r → CandidateAt f room y F.Never
+    never-serves l us u C K T = λ i h. low us u C K T .lowest i (omega (arith, C .counted))
