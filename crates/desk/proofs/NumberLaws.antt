@@ -9,9 +9,9 @@ use Rattle.packet.specs.Numbers.{reasonNumber, fileNumber}
 use Rattle.judge.specs.declared.Verdict.{Verdict}
 use Rattle.judge.specs.declared.Verdict.the-variants as Vs
 use Rattle.judge.specs.Verdict as J
-use Rattle.propose.specs.declared.Proposal.{Proposal}
-use Rattle.propose.specs.declared.Proposal.the-variants as Ps
-use Rattle.propose.specs.Proposed as P
+use Rattle.proposal.specs.declared.Proposal.{Proposal}
+use Rattle.proposal.specs.declared.Proposal.the-variants as Ps
+use Rattle.proposal.specs.Proposed as P
 use Rattle.desk.specs.Numbers.{Numbers, verdictNumbers, proposalNumbers}
 
 abbrev pub numbers : ℕ → ℕ → ℕ → ℕ → Numbers

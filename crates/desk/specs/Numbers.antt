@@ -2,7 +2,7 @@
 -- What the answers are is said in crates judge and propose.
 use Prim.Native.Nat.{ℕ}
 use Rattle.judge.specs.Verdict as J
-use Rattle.propose.specs.Proposed as P
+use Rattle.proposal.specs.Proposed as P
 
 -- what is returned, and the first, the second and the third number beside it
 pub record Numbers : Type 0 where

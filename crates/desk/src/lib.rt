@@ -1,11 +1,11 @@
 // The desk for C and Rust to link (include/desk.h): judging and searching, the answer as numbers.
 use judge::Verdict;
-use propose::Proposal;
+use proposal::Proposal;
 ghost use mathlib.Core.Path.{_≡_};
 ghost use lib.ListN.{length};
 ghost use Rattle.room.specs.Start.{roomAfter};
 ghost use Rattle.judge.specs.Verdict.{paper, verdictOf};
-ghost use Rattle.propose.specs.Proposed as P;
+ghost use Rattle.proposal.specs.Proposed as P;
 ghost use Rattle.desk.specs.Numbers.{verdictNumbers, proposalNumbers};
 
 // Judges a strip.

@@ -20,17 +20,17 @@ use Rattle.packet.specs.Sound.{SoundBooks, BooksMean}
 use Rattle.packet.proofs.PacketLaws.{books-told}
 use Rattle.room.specs.Layout.{words}
 use Rattle.room.proofs.StartLaws.{cleared, untouched}
-use Rattle.provable.specs.Provable.{isSome}
-use Rattle.writer.specs.Spelled.{written}
+use Rattle.proving.specs.Provable.{isSome}
+use Rattle.drawing.specs.Spelled.{written}
 use Rattle.pen.specs.Laid.{counted, Puts}
 use Rattle.pen.proofs.LaidLaws.{puts-as, laid-over}
-use Rattle.writer.specs.declared.Drawn.{Drawn}
-use Rattle.propose.specs.declared.Proposal.{Proposal}
-use Rattle.propose.specs.declared.Proposal.the-variants as P
-use Rattle.propose.specs.Proposed.{mostHeight, Comes, firstStrip, unlessLong, ofFirst, ofBooks, comesTo, proposal, proposalOf, over, left, bufferAfter, paper, Proposes}
+use Rattle.drawing.specs.declared.Drawn.{Drawn}
+use Rattle.proposal.specs.declared.Proposal.{Proposal}
+use Rattle.proposal.specs.declared.Proposal.the-variants as P
+use Rattle.proposal.specs.Proposed.{mostHeight, Comes, firstStrip, unlessLong, ofFirst, ofBooks, comesTo, proposal, proposalOf, over, left, bufferAfter, paper, Proposes}
 use Rattle.propose.specs.Parts.{Setting, Telling, Measuring, Filling, Says, Searching, Answering}
-use Rattle.propose.proofs.MeaningLaws.{unless-fits, unless-long, on-room, on-height, on-refused, once-low}
-use Rattle.propose.proofs.WrittenLaws.{front-filled}
+use Rattle.proposal.proofs.MeaningLaws.{unless-fits, unless-long, on-room, on-height, on-refused, once-low}
+use Rattle.proposal.proofs.WrittenLaws.{front-filled}
 
 -- a refusal leaves the buffer as it came
 pub refusing : (x : Comes) (r : Reason) (f : File) (d : List ℕ) (q : Proposal) → x ≡ Comes.refuses r f → q ≡ proposal (Comes.refuses r f) → Says x d d q

@@ -1,8 +1,2 @@
-pub mod InsideLaws
-pub mod MeaningLaws
-pub mod PaperLaws
-pub mod WrittenLaws
-pub mod SearchedLaws
-pub mod Cases
 pub mod PartsLaws
 pub mod AnswerLaws

@@ -19,14 +19,14 @@ use Rattle.keys.specs.Keys.{KeysFilled}
 use Rattle.narrow.specs.Heads.{HeadsFilled}
 use Rattle.table.specs.Recall.{TableOnly, Empty}
 use Rattle.table.proofs.GoodLaws.{good-empty}
-use Rattle.provable.specs.Stock.{truth, Stock, Keeps}
-use Rattle.provable.specs.Proving.{Ready, Proving}
-use Rattle.provable.proofs.StockLaws.{kept-below, keys-kept, keys-below, heads-below}
-use Rattle.provable.proofs.ProvableLaws.{provable-is}
-use Rattle.writer.specs.Spelled.{written}
-use Rattle.writer.specs.Writing.{Writing}
-use Rattle.writer.specs.declared.Drawn.{Drawn}
-use Rattle.propose.specs.Proposed.{mostHeight, firstStrip, over}
+use Rattle.proving.specs.Stock.{truth, Stock, Keeps}
+use Rattle.proving.specs.Proving.{Ready, Proving}
+use Rattle.proving.proofs.StockLaws.{kept-below, keys-kept, keys-below, heads-below}
+use Rattle.proving.proofs.ProvableLaws.{provable-is}
+use Rattle.drawing.specs.Spelled.{written}
+use Rattle.drawing.specs.Writing.{Writing}
+use Rattle.drawing.specs.declared.Drawn.{Drawn}
+use Rattle.proposal.specs.Proposed.{mostHeight, firstStrip, over}
 use Rattle.propose.specs.Parts.{SetOut, Setting, Telling, Measuring}
 use Rattle.pen.proofs.LaidLaws.{laid-over}
 

@@ -13,13 +13,13 @@ use Rattle.packet.specs.Sound.{SoundBooks}
 use Rattle.room.specs.Layout.{words}
 use Rattle.room.specs.Where.{Means, filesOf}
 use Rattle.room.specs.Start.{start}
-use Rattle.provable.specs.Provable.{isSome}
-use Rattle.provable.specs.Stock.{Stock}
-use Rattle.writer.specs.Spelled.{written}
+use Rattle.proving.specs.Provable.{isSome}
+use Rattle.proving.specs.Stock.{Stock}
+use Rattle.drawing.specs.Spelled.{written}
 use Rattle.pen.specs.Laid.{counted}
-use Rattle.writer.specs.declared.Drawn.{Drawn}
-use Rattle.propose.specs.declared.Proposal.{Proposal}
-use Rattle.propose.specs.Proposed.{mostHeight, Comes, firstStrip, unlessLong, ofFirst, comesTo, proposal, over, left}
+use Rattle.drawing.specs.declared.Drawn.{Drawn}
+use Rattle.proposal.specs.declared.Proposal.{Proposal}
+use Rattle.proposal.specs.Proposed.{mostHeight, Comes, firstStrip, unlessLong, ofFirst, comesTo, proposal, over, left}
 
 -- a packet is set out: its root place stands in the room, which has enough words for the height, and what the search keeps there is right
 pub record SetOut (h : ℕ) (rs gs ts room : List ℕ) (b : Books) : Type 0 where

@@ -1,26 +1,12 @@
 // The search: with rules, goal, terms and a height, the first strip within the height, or the word that there is none (document 01, "Which strip the search writes", "What comes back").
 mod request;
 
-use packet::File;
 use packet::Reason;
+use proposal::Proposal;
 use request::refused;
 use request::search_files;
 use start::clear;
-ghost use Rattle.propose.specs.Proposed.{Proposes};
-
-// What a search answers: the height, nodes and length in bytes of the strip written, or why there is none, with the file and a place.
-pub enum Proposal {
-    Found {
-        height: usize,
-        nodes: usize,
-        length: usize,
-    },
-    Refused {
-        reason: Reason,
-        file: File,
-        place: usize,
-    },
-}
+ghost use Rattle.proposal.specs.Proposed.{Proposes};
 
 // The search of any three files, with any height, buffer and room. The files are not written. The buffer gets the strip in front if there is one and it has room for
 // it, else it is as it came; the room is zero afterwards, or as it came if it is too short.

@@ -1,6 +1,6 @@
 // A search in three parts, once the room is set out: whether there is a strip, the strip drawn once with its measures, and its bytes copied. The buffer is touched by the last of them alone,
 // when the whole answer is known (document 01, "Which strip the search writes", "What comes back").
-use crate::Proposal;
+use proposal::Proposal;
 use keys::fill_keys;
 use narrow::fill_heads;
 use packet::File;
@@ -12,13 +12,13 @@ use reader::read_books;
 use start::fill_tables;
 use start::first_place;
 use table::empty_all;
-use writer::Drawn;
+use drawing::Drawn;
 use writer::write_goal;
 ghost use mathlib.Core.Path.{_≡_};
 ghost use Prim.Native.Nat.{min};
 ghost use Rattle.packet.specs.File.{mostBytes};
 ghost use Rattle.packet.specs.declared.File.the-variants as F;
-ghost use Rattle.propose.specs.Proposed.{Comes, proposal};
+ghost use Rattle.proposal.specs.Proposed.{Comes, proposal};
 ghost use Rattle.propose.specs.Parts.{Setting, Telling, Measuring, Filling, Searching, Answering};
 
 // The room as a search needs it: the tables of rules and candidates, their numbers, the heads of rules, and an empty table of atoms.

@@ -1,19 +1,19 @@
 // Whether a goal has a proof within a height (document 01: "Proving a goal needs the proof of clause bodies, and those are goals again; the height left falls at each turn").
 // The search of a goal calls the search over the clauses at hand, each of which is taken apart from outside; that calls the search of a goal for the body, with one less.
-use crate::Chosen;
-use crate::hand::candidates;
-use crate::hand::clauses;
-use crate::hand::deeper;
-use crate::hand::is_fact;
-use crate::hand::open_clause;
-use crate::plain::Parts;
-use crate::plain::body_place;
-use crate::plain::parts_of;
-use crate::plain::settle;
-use crate::plain::unset_all;
-use crate::plain::word_of;
-use crate::tried::is_left_out;
-use crate::tried::narrow_body;
+use proving::Chosen;
+use proving::candidates;
+use proving::clauses;
+use proving::deeper;
+use proving::is_fact;
+use proving::open_clause;
+use proving::Parts;
+use proving::body_place;
+use proving::parts_of;
+use proving::settle;
+use proving::unset_all;
+use proving::word_of;
+use proving::is_left_out;
+use proving::narrow_body;
 use equal::same_atoms;
 use harrop::Binding;
 use heads::has_head;
@@ -47,8 +47,8 @@ ghost use mathlib.Core.Path.{_≡_};
 ghost use mathlib.Core.Bool.{true};
 ghost use Rattle.packet.specs.declared.Word.the-variants as W;
 ghost use Rattle.room.specs.Where.{filesOf};
-ghost use Rattle.provable.specs.Proving.{Proving, ProvingAs, ProvingWith, ProvingBy, Finding, Deciding, Passing, PassingAs, PassingWith};
-ghost use Rattle.provable.specs.Filling.{PassingParts, Locating, LocatingAt, LocatingFirst, LookingBody, Looking, LookingAs, LookingOne, Dues, FillingFrom, FillingEach, FillingWith};
+ghost use Rattle.proving.specs.Proving.{Proving, ProvingAs, ProvingWith, ProvingBy, Finding, Deciding, Passing, PassingAs, PassingWith};
+ghost use Rattle.proving.specs.Filling.{PassingParts, Locating, LocatingAt, LocatingFirst, LookingBody, Looking, LookingAs, LookingOne, Dues, FillingFrom, FillingEach, FillingWith};
 
 // Whether the goal of a place has a proof of at most this height.
 pub fn prove_goal<'a>(

@@ -7,7 +7,7 @@ use programs::put_aside;
 use programs::say;
 use programs::say_number;
 use programs::say_refused;
-use propose::Proposal;
+use proposal::Proposal;
 use sexp::Value;
 ghost use mathlib.Core.Path.{_≡_};
 ghost use Prim.Native.Nat.{_≤_};

@@ -7,7 +7,7 @@ use programs::say;
 use programs::say_number;
 use programs::say_refused;
 use programs::string;
-use propose::Proposal;
+use proposal::Proposal;
 use sexp::Value;
 ghost use mathlib.Core.Path.{_≡_};
 ghost use Prim.Native.Nat.{_<_, _≤_};

@@ -1,17 +1,17 @@
 // The first strip at a place that has a proof, drawn node by node: of each option in order crate provable is asked, and the walk goes on in the first that has a proof; the numbers of a path that the search has left in the room are taken from there
 // (document 01, "Which strip the search writes"). A node draws its head, lends the remaining part of the buffer to the writer of each of its parts, and draws its closing parenthesis behind them. `at` is 0 but for a part
 // that begins beyond the buffer's end, where nothing is written and the strip is only measured.
-use crate::Drawn;
-use crate::first::first_clause;
-use crate::first::first_with;
-use crate::first::number_through;
-use crate::put::behind;
-use crate::put::beside;
-use crate::put::close;
-use crate::put::cut;
-use crate::put::nothing;
-use crate::put::shut;
-use crate::put::top;
+use drawing::Drawn;
+use drawing::first_clause;
+use drawing::first_with;
+use drawing::number_through;
+use drawing::behind;
+use drawing::beside;
+use drawing::close;
+use drawing::cut;
+use drawing::nothing;
+use drawing::shut;
+use drawing::top;
 use harrop::Binding;
 use packet::Word;
 use pen::put;
@@ -23,10 +23,10 @@ use places::plus;
 use places::supposes;
 use places::within;
 use places::word_there;
-use provable::Chosen;
-use provable::deeper;
-use provable::is_plain;
-use provable::open_clause;
+use proving::Chosen;
+use proving::deeper;
+use proving::is_plain;
+use proving::open_clause;
 use provable::prove_goal;
 use provable::through;
 use room::Spot;
@@ -39,7 +39,7 @@ ghost use Prim.Native.Nat.{ℕ};
 ghost use mathlib.Core.Bool.{false};
 ghost use Rattle.packet.specs.declared.Word.the-variants as W;
 ghost use Rattle.room.specs.Where.{filesOf};
-ghost use Rattle.writer.specs.Writing.{Writing, WritingAs, Pathing, PathingAs};
+ghost use Rattle.drawing.specs.Writing.{Writing, WritingAs, Pathing, PathingAs};
 
 // The first strip of the goal of a place, within this height.
 pub fn write_goal<'a>(

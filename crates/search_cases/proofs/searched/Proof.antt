@@ -1,7 +1,7 @@
 -- `searched` (src/main.rt): the strip that is found lies inside the buffer.
 use mathlib.Core.Path.{sym}
 use lib.Seq.{length-take-le}
-use Rattle.propose.proofs.InsideLaws.{found-inside}
+use Rattle.proposal.proofs.InsideLaws.{found-inside}
 use native.Mathlib.Omega.{arith}
 use borrow.Author.Needs.{needs}
 use Rattle.search_cases.proofs.searched.Statement.{statement}

@@ -1,5 +1,5 @@
 -- `refused` of src/request.rt: what a refusal is answered by.
-use Rattle.propose.specs.Proposed.{proposal}
+use Rattle.proposal.specs.Proposed.{proposal}
 use mathlib.Core.Path.{refl}
 use Rattle.propose.proofs.request.refused.Statement.{statement}
 use Rattle.propose.proofs.request.refused.Tie as tie

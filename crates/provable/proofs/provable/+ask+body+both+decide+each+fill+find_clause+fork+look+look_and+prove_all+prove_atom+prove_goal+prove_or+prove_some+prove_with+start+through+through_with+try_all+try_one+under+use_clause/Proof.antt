@@ -15,12 +15,12 @@ use Rattle.rows.proofs.TableLaws.{no-row, tag-rank}
 use Rattle.room.specs.Frame.{bindingWord, held}
 use Rattle.room.specs.Where.{filesOf}
 use Rattle.table.specs.Recall.{Says}
-use Rattle.provable.proofs.ProvingLaws as laws
-use Rattle.provable.proofs.AtomLaws as atoms
-use Rattle.provable.proofs.PassingLaws as passing
-use Rattle.provable.proofs.FillLaws as filling
-use Rattle.provable.proofs.TriedLaws as tried
-use Rattle.provable.proofs.LocatingLaws as locating
+use Rattle.proving.proofs.ProvingLaws as laws
+use Rattle.proving.proofs.AtomLaws as atoms
+use Rattle.proving.proofs.PassingLaws as passing
+use Rattle.proving.proofs.FillLaws as filling
+use Rattle.proving.proofs.TriedLaws as tried
+use Rattle.proving.proofs.LocatingLaws as locating
 use borrow.Fn.Kinds.{In}
 use borrow.Fn.PlainCycle.{Measures, is, falls, and}
 use Rattle.provable.proofs.provable.ask.Reads as ask
@@ -96,19 +96,19 @@ use Rattle.heads.proofs.has_head.Reads as has-head-reads
 use Rattle.keys.proofs.atom_key.Reads as atom-key-reads
 use Rattle.keys.proofs.predicate_key.Reads as predicate-key-reads
 use Rattle.keys.proofs.next_clause.Reads as next-clause-reads
-use Rattle.provable.proofs.hand.candidates.Reads as candidates-reads
-use Rattle.provable.proofs.hand.clauses.Reads as clauses-reads
-use Rattle.provable.proofs.hand.deeper.Reads as deeper-reads
-use Rattle.provable.proofs.hand.is_fact.Reads as is-fact-reads
-use Rattle.provable.proofs.hand.open_clause.Reads as open-clause-reads
-use Rattle.provable.proofs.plain.body_place.Reads as body-place-reads
-use Rattle.provable.proofs.plain.parts_of.Reads as parts-of-reads
-use Rattle.provable.proofs.plain.settle.Reads as settle-reads
-use Rattle.provable.proofs.plain.unset_all.Reads as unset-all-reads
-use Rattle.provable.proofs.plain.word_of.Reads as word-of-reads
+use Rattle.proving.proofs.candidates.Reads as candidates-reads
+use Rattle.proving.proofs.clauses.Reads as clauses-reads
+use Rattle.proving.proofs.deeper.Reads as deeper-reads
+use Rattle.proving.proofs.is_fact.Reads as is-fact-reads
+use Rattle.proving.proofs.open_clause.Reads as open-clause-reads
+use Rattle.proving.proofs.body_place.Reads as body-place-reads
+use Rattle.proving.proofs.parts_of.Reads as parts-of-reads
+use Rattle.proving.proofs.settle.Reads as settle-reads
+use Rattle.proving.proofs.unset_all.Reads as unset-all-reads
+use Rattle.proving.proofs.word_of.Reads as word-of-reads
 use Rattle.provable.proofs.provable.is_due.Reads as is-due-reads
-use Rattle.provable.proofs.tried.narrow_body.Reads as narrow-body-reads
-use Rattle.provable.proofs.tried.is_left_out.Reads as is-left-out-reads
+use Rattle.proving.proofs.narrow_body.Reads as narrow-body-reads
+use Rattle.proving.proofs.is_left_out.Reads as is-left-out-reads
 use Rattle.equal.proofs.same_atoms.Reads as same-atoms-reads
 use Rattle.room.proofs.suppose.Reads as suppose-reads
 use Rattle.room.proofs.push.Reads as push-reads

@@ -1,7 +1,7 @@
 -- `is_due` of src/provable.rt meets its contract. Assumes nothing.
 use borrow.Author.Needs.{needs}
 use borrow.Author.Tests.{not-true, not-false}
-use Rattle.provable.proofs.FillLaws.{due-waits, due-first, due-new}
+use Rattle.proving.proofs.FillLaws.{due-waits, due-first, due-new}
 use Rattle.provable.proofs.provable.is_due.Statement.{statement}
 use Rattle.provable.proofs.provable.is_due.Tie as tie
 use Rattle.provable.proofs.provable.is_due.Reads as reads

@@ -8,9 +8,9 @@ use Rattle.packet.specs.declared.Word.the-variants as W
 use Rattle.packet.specs.Table.{rows, rank}
 use Rattle.rows.proofs.TableLaws.{no-row}
 use Rattle.room.specs.Frame.{bindingWord, held}
-use Rattle.provable.proofs.PassingLaws as passing
-use Rattle.writer.proofs.WritingLaws as writing
-use Rattle.writer.proofs.PathingLaws as pathing
+use Rattle.proving.proofs.PassingLaws as passing
+use Rattle.drawing.proofs.WritingLaws as writing
+use Rattle.drawing.proofs.PathingLaws as pathing
 use native.Mathlib.Omega.{arith}
 use borrow.Author.Needs.{needs}
 use Prim.Native.Nat.{ℕ, _+_, _-_, _*_, _<_}
@@ -51,9 +51,9 @@ use Rattle.writer.proofs.write.write_use.Kinds as write-use-kinds
 use Rattle.writer.proofs.write.+path_all+path_and+write_all+write_body+write_both+write_either+write_goal+write_path+write_some+write_under+write_use.Lts-write_use as write-use-lts
 use Rattle.pen.proofs.put.Reads as put-reads
 use Rattle.pen.proofs.put_number.Reads as put-number-reads
-use Rattle.provable.proofs.deeper.Reads as deeper-reads
-use Rattle.provable.proofs.is_plain.Reads as is-plain-reads
-use Rattle.provable.proofs.open_clause.Reads as open-clause-reads
+use Rattle.proving.proofs.deeper.Reads as deeper-reads
+use Rattle.proving.proofs.is_plain.Reads as is-plain-reads
+use Rattle.proving.proofs.open_clause.Reads as open-clause-reads
 use Rattle.provable.proofs.prove_goal.Reads as prove-goal-reads
 use Rattle.provable.proofs.through.Reads as through-reads
 use Rattle.room.proofs.suppose.Reads as suppose-reads
@@ -66,16 +66,16 @@ use Rattle.places.proofs.supposes.Reads as supposes-reads
 use Rattle.places.proofs.within.Reads as within-reads
 use Rattle.places.proofs.word_there.Reads as word-there-reads
 use Rattle.table.proofs.forget.Reads as forget-reads
-use Rattle.writer.proofs.first.first_clause.Reads as first-clause-reads
-use Rattle.writer.proofs.first.number_through.Reads as number-through-reads
-use Rattle.writer.proofs.first.first_with.Reads as first-with-reads
-use Rattle.writer.proofs.put.behind.Reads as behind-reads
-use Rattle.writer.proofs.put.beside.Reads as beside-reads
-use Rattle.writer.proofs.put.close.Reads as close-reads
-use Rattle.writer.proofs.put.cut.Reads as cut-reads
-use Rattle.writer.proofs.put.nothing.Reads as nothing-reads
-use Rattle.writer.proofs.put.shut.Reads as shut-reads
-use Rattle.writer.proofs.put.top.Reads as top-reads
+use Rattle.drawing.proofs.first_clause.Reads as first-clause-reads
+use Rattle.drawing.proofs.number_through.Reads as number-through-reads
+use Rattle.drawing.proofs.first_with.Reads as first-with-reads
+use Rattle.drawing.proofs.behind.Reads as behind-reads
+use Rattle.drawing.proofs.beside.Reads as beside-reads
+use Rattle.drawing.proofs.close.Reads as close-reads
+use Rattle.drawing.proofs.cut.Reads as cut-reads
+use Rattle.drawing.proofs.nothing.Reads as nothing-reads
+use Rattle.drawing.proofs.shut.Reads as shut-reads
+use Rattle.drawing.proofs.top.Reads as top-reads
 use Rattle.writer.proofs.write.+path_all+path_and+write_all+write_body+write_both+write_either+write_goal+write_path+write_some+write_under+write_use.{
   statement,
 }

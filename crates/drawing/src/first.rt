@@ -1,0 +1,110 @@
+// The first option that has a proof, by number: a candidate for a `some`, a clause for an atom, a candidate on the way into a clause (document 01, "Which strip the search writes").
+// Each is asked of crate provable in order, and none after the first that does; where a search has left the numbers of a path in the room they are read there.
+use harrop::Binding;
+use keys::atom_key;
+use keys::predicate_key;
+use places::plus;
+use proving::candidates;
+use provable::find_clause;
+use provable::prove_with;
+use provable::through_with;
+use room::Spot;
+use room::Where;
+use room::variable;
+ghost use Rattle.room.specs.Where.{filesOf};
+ghost use mathlib.Core.Path.{_≡_};
+ghost use Rattle.proving.specs.First.{numberOf};
+ghost use Rattle.proving.specs.Filling.{LocatingAt};
+ghost use Rattle.drawing.specs.Writing.{FirstWith, FirstClause, FirstThrough, NumberThrough};
+
+// The first candidate with which the part of a `some` has a proof.
+pub fn first_with<'a>(
+    rules: &'a [u8],
+    goal: &'a [u8],
+    terms: &'a [u8],
+    room: &mut [u32],
+    w: Where,
+    left: usize,
+) -> u32
+    ensures { λ r. ⌜ FirstWith (filesOf (now (rules .entry)) (now (goal .entry)) (now (terms .entry))) (now (room .entry)) (now (room .exit)) w left r ⌝ }
+{
+    let n = candidates(room);
+    let mut i: u32 = 0;
+    while i < n {
+        if prove_with(rules, goal, terms, room, w, i, left) {
+            return i;
+        }
+        i += 1;
+    }
+    0
+}
+
+// The first clause at hand that serves an atom. If no `and` is on the way to its head, the numbers of the first path through it are left behind its frame.
+pub fn first_clause<'a>(
+    rules: &'a [u8],
+    goal: &'a [u8],
+    terms: &'a [u8],
+    room: &mut [u32],
+    w: Where,
+    left: usize,
+) -> usize
+    ensures { λ r. ⌜ FirstClause (filesOf (now (rules .entry)) (now (goal .entry)) (now (terms .entry))) (now (room .entry)) (now (room .exit)) w left r × LocatingAt (filesOf (now (rules .entry)) (now (goal .entry)) (now (terms .entry))) (now (room .entry)) (now (room .exit)) w left r ⌝ }
+{
+    let predicate = predicate_key(rules, goal, terms, w.goal);
+    let key = atom_key(rules, goal, terms, room, w.goal);
+    find_clause(rules, goal, terms, room, w, predicate, key, left)
+}
+
+// The first candidate with which a path through the clause of an `all` ends well.
+fn first_through<'a>(
+    rules: &'a [u8],
+    goal: &'a [u8],
+    terms: &'a [u8],
+    room: &mut [u32],
+    w: Where,
+    x: Spot,
+    nest: usize,
+    left: usize,
+) -> u32
+    ensures { λ r. ⌜ FirstThrough (filesOf (now (rules .entry)) (now (goal .entry)) (now (terms .entry))) (now (room .entry)) (now (room .exit)) w x nest left r ⌝ }
+{
+    let n = candidates(room);
+    let mut i: u32 = 0;
+    while i < n {
+        if through_with(rules, goal, terms, room, w, x, i, nest, left) {
+            return i;
+        }
+        i += 1;
+    }
+    0
+}
+
+// The number of what a variable is bound to.
+fn number(b: Binding) -> u32
+    ensures { λ r. ⌜ r ≡ numberOf b ⌝ }
+{
+    match b {
+        Binding::Candidate(i) => i,
+        Binding::Parameter(k) => k,
+    }
+}
+
+// The same, where it may stand in the room already, behind the clause's frame.
+pub fn number_through<'a>(
+    rules: &'a [u8],
+    goal: &'a [u8],
+    terms: &'a [u8],
+    room: &mut [u32],
+    w: Where,
+    x: Spot,
+    nest: usize,
+    left: usize,
+    located: bool,
+) -> u32
+    ensures { λ r. ⌜ NumberThrough (filesOf (now (rules .entry)) (now (goal .entry)) (now (terms .entry))) (now (room .entry)) (now (room .exit)) w x nest left located r ⌝ }
+{
+    if located {
+        return number(variable(room, x.base, plus(x.count, 1), 0));
+    }
+    first_through(rules, goal, terms, room, w, x, nest, left)
+}

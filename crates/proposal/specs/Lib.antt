@@ -1,0 +1,3 @@
+pub mod Proposed
+pub mod Meaning
+pub mod Cases

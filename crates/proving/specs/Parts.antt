@@ -1,0 +1,68 @@
+-- A clause with no `and` on the way to its head, by its parts: how many quantifiers it has, and what stands inside them, an atom or a goal that implies an atom.
+use Prim.Native.Nat.{ℕ, suc, _+_, _-_, _≤_}
+use mathlib.Core.Path.{_≡_}
+use mathlib.Core.Bool.{Bool, true, false}
+use lib.Dec.{ltb}
+use lib.ListN.{length}
+use Rattle.basics.specs.Choice.{choose}
+use Rattle.harrop.specs.Formula.{Goal, Clause}
+use Rattle.harrop.specs.Place.{Plain}
+use Rattle.sexp.specs.Sexp.{Stands, nesting}
+use Rattle.packet.specs.Written.{atomSexp, goalSexp, clauseSexp}
+use Rattle.packet.specs.File.{mostBytes}
+use Rattle.room.specs.Layout.{levels}
+use Rattle.room.specs.Where.{Files, plus}
+use Rattle.room.specs.declared.Spot.{Spot}
+use Rattle.room.specs.declared.Where.{Where}
+use Rattle.heads.specs.Predicate.{bytesAt, ClauseThere}
+use Rattle.proving.specs.declared.plain.Parts.{Parts}
+
+abbrev pub isPlain : Clause Plain → Bool
+isPlain (Clause.atomD b) = true
+isPlain (Clause.impD g b) = true
+isPlain (Clause.allD q d) = isPlain d
+isPlain (Clause.andD c d) = false
+
+-- how many quantifiers are around, and what is inside them
+abbrev pub quantifiers : Clause Plain → ℕ
+quantifiers (Clause.atomD b) = 0
+quantifiers (Clause.impD g b) = 0
+quantifiers (Clause.allD q d) = suc (quantifiers d)
+quantifiers (Clause.andD c d) = 0
+
+abbrev pub core : Clause Plain → Clause Plain
+core (Clause.atomD b) = Clause.atomD b
+core (Clause.impD g b) = Clause.impD g b
+core (Clause.allD q d) = core d
+core (Clause.andD c d) = Clause.andD c d
+
+-- what is inside stands where the parts say
+abbrev pub CoreAt : Files → Parts → Clause Plain → Type 0
+CoreAt f r (Clause.atomD b) = (r .body ≡ false) × Stands (bytesAt f (r .head)) (r .head .at) (atomSexp b)
+CoreAt f r (Clause.impD g b) = (r .body ≡ true) × Stands (bytesAt f (r .head)) (r .head .at) (atomSexp b) × Stands (bytesAt f (r .goal)) (r .goal .at) (goalSexp g)
+CoreAt f r (Clause.allD q d) = ⊥
+CoreAt f r (Clause.andD c d) = ⊥
+
+-- the parts of the clause at a spot, where so many quantifiers were passed before; both are in the frame of all variables
+pub record PartsAt (f : Files) (x : Spot) (passed : ℕ) (d : Clause Plain) (r : Parts) : Type 0 where
+  pub own : r .own ≡ passed + quantifiers d
+  pub base : (r .head .base ≡ x .base) × (r .goal .base ≡ x .base)
+  pub count : (r .head .count ≡ x .count + quantifiers d) × (r .goal .count ≡ x .count + quantifiers d)
+  pub stands : CoreAt f r (core d)
+
+pub record PartsOf (f : Files) (x : Spot) (own nest : ℕ) (r : Parts) : Type 0 where
+  pub few : r .own ≤ own + nest
+  pub told : (d : Clause Plain) → nesting (clauseSexp d) ≤ nest → ClauseThere f x d → x .count + nest ≤ mostBytes → own + nest ≤ mostBytes → r .found ≡ isPlain d
+  pub parts : (d : Clause Plain) → nesting (clauseSexp d) ≤ nest → ClauseThere f x d → x .count + nest ≤ mostBytes → own + nest ≤ mostBytes → r .found ≡ true → PartsAt f x own d r
+
+-- whether the clause at a spot is such a one
+abbrev pub PlainAt : Files → Spot → Bool → Type 0
+PlainAt f x r = (d : Clause Plain) → nesting (clauseSexp d) ≤ levels → ClauseThere f x d → x .count ≤ levels → r ≡ isPlain d
+
+-- the word of the room that variable v of a frame is in
+abbrev pub variableWord : Spot → ℕ → ℕ
+variableWord x v = choose (ltb v (x .count)) (plus (x .base) (x .count - 1 - v)) (plus (x .base) (x .count))
+
+-- the place of the body
+abbrev pub bodyPlace : Where → Parts → Where
+bodyPlace w p = record { goal = p .goal; supposed = w .supposed; parameters = w .parameters; top = plus (p .goal .base) (p .goal .count) }
