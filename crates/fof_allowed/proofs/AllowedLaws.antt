@@ -16,12 +16,12 @@ use Rattle.fof_tokens.specs.declared.Kind.the-variants as K
 use Rattle.fof_tokens.specs.Token.{Token}
 use Rattle.fof_tokens.specs.Cuts.{Cuts}
 use Rattle.grammar.specs.Derives.{Symbol, the, any, Has, Derives, end, token, choice}
-use Rattle.fof_grammar.specs.Terminal as terminal
-use Rattle.fof_grammar.specs.Terminal.{Terminal}
-use Rattle.fof_grammar.specs.Name as name
-use Rattle.fof_grammar.specs.Name.{Name}
-use Rattle.fof_grammar.specs.Grammar.{productions}
-use Rattle.fof_grammar.specs.Sound.{terminalOf, Sound}
+use Rattle.fof_productions.specs.Terminal as terminal
+use Rattle.fof_productions.specs.Terminal.{Terminal}
+use Rattle.fof_productions.specs.Name as name
+use Rattle.fof_productions.specs.Name.{Name}
+use Rattle.fof_productions.specs.Grammar.{productions}
+use Rattle.fof_productions.specs.Sound.{terminalOf, Sound}
 use Rattle.fof_truth.specs.Formula.{Term, Terms, Formula, Line}
 use Rattle.fof_part.specs.Sign.{Sign, signOf, signs}
 use Rattle.fof_part.specs.Spelled as spelled

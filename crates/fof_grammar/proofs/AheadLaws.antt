@@ -10,10 +10,10 @@ use lib.ListN.{length, getD, drop}
 use borrow.Author.Tests.{eq-eqb, ne-eqb}
 use Rattle.basics.specs.Choice.{choose}
 use Rattle.grammar.specs.Machine.{ahead, chosen}
-use Rattle.fof_grammar.specs.Terminal.{Terminal, code}
-use Rattle.fof_grammar.specs.Decided.{decided, looks}
-use Rattle.fof_grammar.specs.Coded.{nameAt, tokenAt, alternativeAt}
-use Rattle.fof_grammar.proofs.Once.{token-back, code-below}
+use Rattle.fof_productions.specs.Terminal.{Terminal, code}
+use Rattle.fof_productions.specs.Decided.{decided, looks}
+use Rattle.fof_productions.specs.Coded.{nameAt, tokenAt, alternativeAt}
+use Rattle.fof_productions.proofs.Once.{token-back, code-below}
 use Rattle.fof_grammar.proofs.Tables.{ordinal-at}
 
 formula-looks : looks (nameAt 6) ≡ true

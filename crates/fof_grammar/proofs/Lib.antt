@@ -1,8 +1,3 @@
-pub mod Once
-pub mod Right
-pub mod Same
-pub mod Soundly
-pub mod Examples
 pub mod Entries
 pub mod Tables
 pub mod StackLaws

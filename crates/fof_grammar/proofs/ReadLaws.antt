@@ -22,8 +22,8 @@ use Rattle.fof_tokens.proofs.CutsLaws.{longest-filled}
 use Rattle.fof_tokens.proofs.NextLaws.{lexed-right, tokens-next}
 use Rattle.fof_grammar.specs.declared.read.Tokens.{Tokens}
 use Rattle.fof_grammar.specs.declared.read.Tokens.the-variants.{Count, Bad}
-use Rattle.fof_grammar.specs.Terminal.{'fof', other-word, '$fof', '$cnf', '$fot', other-dollar, sameOctets, terminal, code}
-use Rattle.fof_grammar.specs.Sound.{terminalOf}
+use Rattle.fof_productions.specs.Terminal.{'fof', other-word, '$fof', '$cnf', '$fot', other-dollar, sameOctets, terminal, code}
+use Rattle.fof_productions.specs.Sound.{terminalOf}
 use Rattle.fof_grammar.specs.Read.{ReadAs}
 
 -- a word that was compared

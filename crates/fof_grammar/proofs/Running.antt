@@ -16,12 +16,12 @@ use Rattle.grammar.specs.Derives.{Symbol, the, any, Has, Derives, end, token, c
 use Rattle.grammar.specs.Machine.{ahead, chosen, due, costOf}
 use Rattle.grammar.proofs.Ahead.{Fits, fits-choice}
 use Rattle.grammar.proofs.Machine.{back, step-down, step-none, few-entries, due-below, due-falls}
-use Rattle.fof_grammar.specs.Terminal.{Terminal, code}
-use Rattle.fof_grammar.specs.Name.{Name, file, ordinal}
-use Rattle.fof_grammar.specs.Decided.{choices, looks, cost, decided}
-use Rattle.fof_grammar.specs.Coded.{nameAt, mark, flat, alternativeAt, Holds}
-use Rattle.fof_grammar.proofs.Once.{code-once, code-below, ordinal-back, ordinal-below}
-use Rattle.fof_grammar.proofs.Right.{rightly}
+use Rattle.fof_productions.specs.Terminal.{Terminal, code}
+use Rattle.fof_productions.specs.Name.{Name, file, ordinal}
+use Rattle.fof_productions.specs.Decided.{choices, looks, cost, decided}
+use Rattle.fof_productions.specs.Coded.{nameAt, mark, flat, alternativeAt, Holds}
+use Rattle.fof_productions.proofs.Once.{code-once, code-below, ordinal-back, ordinal-below}
+use Rattle.fof_productions.proofs.Right.{rightly}
 use Rattle.fof_grammar.proofs.StackLaws.{holds-put}
 
 abbrev pub Row : Type 0

@@ -6,9 +6,9 @@ use native.Mathlib.Omega.{arith}
 use lib.ListN.{length, getD, set, take, length-reverse}
 use lib.Seq.{getD-set-same, getD-set-other}
 use Rattle.grammar.specs.Derives.{Symbol}
-use Rattle.fof_grammar.specs.Terminal.{Terminal}
-use Rattle.fof_grammar.specs.Name.{Name}
-use Rattle.fof_grammar.specs.Coded.{mark, flat, markAt, Holds}
+use Rattle.fof_productions.specs.Terminal.{Terminal}
+use Rattle.fof_productions.specs.Name.{Name}
+use Rattle.fof_productions.specs.Coded.{mark, flat, markAt, Holds}
 
 pub holds-set : (stack : List ℕ) (i x n : ℕ) (ss : List (Symbol Terminal Name)) → n ≤ i → Holds stack n ss → Holds (set stack i x) n ss
 holds-set stack i x n [] l h = h

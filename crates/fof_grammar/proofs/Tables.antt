@@ -15,11 +15,11 @@ use Rattle.grammar.specs.Machine.{chosen}
 use Rattle.grammar.specs.Recast.{sameSymbol}
 use Rattle.grammar.proofs.Recast.{same-symbol}
 use Rattle.grammar.proofs.Machine.{chosen-has}
-use Rattle.fof_grammar.specs.Terminal.{Terminal, code}
-use Rattle.fof_grammar.specs.Name.{Name, ordinal}
-use Rattle.fof_grammar.specs.Decided.{choices, decided}
-use Rattle.fof_grammar.specs.Coded.{terminalAt, nameAt, tokenAt, mark, flat, alternativeAt, markAt}
-use Rattle.fof_grammar.proofs.Once.{code-once, ordinal-once}
+use Rattle.fof_productions.specs.Terminal.{Terminal, code}
+use Rattle.fof_productions.specs.Name.{Name, ordinal}
+use Rattle.fof_productions.specs.Decided.{choices, decided}
+use Rattle.fof_productions.specs.Coded.{terminalAt, nameAt, tokenAt, mark, flat, alternativeAt, markAt}
+use Rattle.fof_productions.proofs.Once.{code-once, ordinal-once}
 use Rattle.fof_grammar.proofs.Entries.{every, entry}
 
 abbrev pub choiceTable : List ℕ

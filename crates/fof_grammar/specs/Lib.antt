@@ -1,8 +1,1 @@
-pub mod Terminal
-pub mod Name
-pub mod Aids
-pub mod Grammar
-pub mod Decided
-pub mod Sound
-pub mod Coded
 pub mod Read

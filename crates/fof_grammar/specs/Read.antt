@@ -8,8 +8,8 @@ use Rattle.fof_tokens.specs.Token.{Token}
 use Rattle.fof_tokens.specs.Next.{tokens}
 use Rattle.fof_grammar.specs.declared.read.Tokens.{Tokens}
 use Rattle.fof_grammar.specs.declared.read.Tokens.the-variants.{Count, Bad}
-use Rattle.fof_grammar.specs.Terminal.{code}
-use Rattle.fof_grammar.specs.Sound.{terminalOf}
+use Rattle.fof_productions.specs.Terminal.{code}
+use Rattle.fof_productions.specs.Sound.{terminalOf}
 
 abbrev pub ReadAs : List ℕ → List ℕ → Tokens → Type 0
 ReadAs text codes (Count n) =

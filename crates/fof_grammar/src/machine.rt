@@ -10,11 +10,11 @@ ghost use lib.ListN.{length, drop, getD};
 ghost use Rattle.basics.specs.Tells.{Tells};
 ghost use Rattle.grammar.specs.Derives.{Symbol, any, Has, Derives};
 ghost use Rattle.grammar.specs.Machine.{ahead, chosen};
-ghost use Rattle.fof_grammar.specs.Terminal.{Terminal, code};
-ghost use Rattle.fof_grammar.specs.Name.{Name, file};
-ghost use Rattle.fof_grammar.specs.Decided.{choices, decided, looks};
-ghost use Rattle.fof_grammar.specs.Grammar.{productions};
-ghost use Rattle.fof_grammar.specs.Coded.{nameAt, tokenAt, flat, alternativeAt, Holds};
+ghost use Rattle.fof_productions.specs.Terminal.{Terminal, code};
+ghost use Rattle.fof_productions.specs.Name.{Name, file};
+ghost use Rattle.fof_productions.specs.Decided.{choices, decided, looks};
+ghost use Rattle.fof_productions.specs.Grammar.{productions};
+ghost use Rattle.fof_productions.specs.Coded.{nameAt, tokenAt, flat, alternativeAt, Holds};
 
 // The number of the next token, or of the end.
 fn next(codes: &[u8], at: usize) -> u8

@@ -7,7 +7,7 @@ ghost use mathlib.Core.Path.{_≡_};
 ghost use Prim.Native.Nat.{_≤_};
 ghost use lib.ListN.{length};
 ghost use Rattle.fof_tokens.specs.declared.Kind.the-variants as K;
-ghost use Rattle.fof_grammar.specs.Terminal.{terminal, code};
+ghost use Rattle.fof_productions.specs.Terminal.{terminal, code};
 ghost use Rattle.fof_grammar.specs.Read.{ReadAs};
 
 // How many tokens there are, unless something in the text is none.

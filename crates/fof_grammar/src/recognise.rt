@@ -3,7 +3,7 @@ use crate::machine::derived;
 use crate::read::Tokens;
 use crate::read::read;
 ghost use mathlib.Core.Path.{_≡_};
-ghost use Rattle.fof_grammar.specs.Sound.{soundBook};
+ghost use Rattle.fof_productions.specs.Sound.{soundBook};
 
 // The answer for a text of at most 16,384 bytes; no longer one is a book.
 pub fn sound_text(text: &[u8]) -> bool

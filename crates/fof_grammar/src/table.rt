@@ -4,8 +4,8 @@ ghost use Prim.Native.Nat.{ℕ, _<_, _≤_};
 ghost use lib.ListN.{length};
 ghost use Rattle.grammar.specs.Derives.{Has};
 ghost use Rattle.grammar.specs.Machine.{chosen};
-ghost use Rattle.fof_grammar.specs.Decided.{choices, decided};
-ghost use Rattle.fof_grammar.specs.Coded.{nameAt, tokenAt, flat, alternativeAt, markAt};
+ghost use Rattle.fof_productions.specs.Decided.{choices, decided};
+ghost use Rattle.fof_productions.specs.Coded.{nameAt, tokenAt, flat, alternativeAt, markAt};
 
 // A row for each name, with a column for each token and the end: which of its alternatives, counted from 0; a dot for none.
 const CHOICES: [u8; 1710] = *b"1....................................0\

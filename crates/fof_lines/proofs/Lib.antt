@@ -1,4 +1,2 @@
-pub mod ActLaws
-pub mod RunLaws
 pub mod LineLaws
 pub mod LinesLaws

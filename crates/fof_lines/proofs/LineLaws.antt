@@ -19,7 +19,7 @@ use Rattle.fof_part.specs.Due.{Ran, taking, formulaAt}
 use Rattle.fof_part.specs.Lines.{word, roleOf, sortOf, introduced, Read, lineAt}
 use Rattle.fof_pass.specs.declared.ahead.Ahead.{Ahead}
 use Rattle.fof_pass.specs.declared.ink.Pen.{Pen}
-use Rattle.fof_lines.specs.declared.act.Now.{Now}
+use Rattle.fof_act.specs.declared.act.Now.{Now}
 use Rattle.fof_pass.specs.declared.expected.Taken.{Taken}
 use Rattle.fof_pass.specs.declared.expected.Taken.the-variants as T
 use Rattle.fof_lines.specs.declared.line.Role.{Role}
@@ -29,7 +29,7 @@ use Rattle.fof_lines.specs.declared.lines.Passed.{Passed}
 use Rattle.fof_pass.specs.Ahead.{signsAt, between, SeesAll, Aheads}
 use Rattle.fof_pass.specs.Ink.{Inks}
 use Rattle.fof_pass.specs.Taking.{TakesTo}
-use Rattle.fof_lines.specs.Holding.{ReadAs}
+use Rattle.fof_act.specs.Holding.{ReadAs}
 use Rattle.fof_lines.specs.Lined.{roleIs, opened, labelled, roled, OpenedAs, closed, lined, AddedAs}
 use Rattle.fof_pass.proofs.InkLaws.{inks-none}
 

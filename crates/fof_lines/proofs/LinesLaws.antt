@@ -26,11 +26,11 @@ use Rattle.fof_pass.specs.declared.ink.Pen.{Pen}
 use Rattle.fof_lines.specs.declared.lines.Passed.{Passed}
 use Rattle.fof_pass.specs.Ahead.{signsAt, SeesAll, Aheads}
 use Rattle.fof_pass.specs.Ink.{Inks}
-use Rattle.fof_lines.specs.Holding.{Roomy}
+use Rattle.fof_act.specs.Holding.{Roomy}
 use Rattle.fof_lines.specs.Lined.{opened, labelled, roled, Added, AddedAs, KeptBoth, Counted, begins, FiledAs, Starts, Ends}
 use Rattle.fof_pass.proofs.InkLaws.{inks-none, inks-then}
 use Rattle.fof_lines.proofs.LineLaws.{unopened, then-opened}
-use Rattle.fof_lines.proofs.RunLaws.{signs-few}
+use Rattle.fof_act.proofs.RunLaws.{signs-few}
 
 -- what a run leaves of the signs is no more than they and the dues were worth
 run-rest : (f : ℕ) (ds : List Due) (sc : Scope) (ss : List Sign) (r : Ran) → run f ds sc ss ≡ some r → 6 * length (r .rest) ≤ worth ds ss

@@ -18,12 +18,12 @@ use Rattle.fof_part.specs.Files.{axiomThen, conjectureThen, axiomsIn, conjectur
 use Rattle.fof_pass.specs.declared.ink.Pen.{Pen}
 use Rattle.fof_pass.specs.Ahead.{signsAt}
 use Rattle.fof_pass.specs.Ink.{Inks}
-use Rattle.fof_lines.specs.declared.act.Now.{Now}
+use Rattle.fof_act.specs.declared.act.Now.{Now}
 use Rattle.fof_lines.specs.declared.line.Role.{Role}
 use Rattle.fof_lines.specs.declared.line.Role.the-variants as R
 use Rattle.fof_lines.specs.declared.line.Opened.{Opened}
 use Rattle.fof_lines.specs.declared.lines.Passed.{Passed}
-use Rattle.fof_lines.specs.Holding.{Roomy, Kept, ReadAs}
+use Rattle.fof_act.specs.Holding.{Roomy, Kept, ReadAs}
 
 abbrev pub roleIs : truth.Role → Role
 roleIs truth.Role.asAxiom = R.Axiom

@@ -1,6 +1,6 @@
 // A line: what stands before its formula, the formula, and what stands behind it.
-use crate::act::Now;
-use crate::run::formula;
+use fof_act::Now;
+use fof_act::formula;
 use fof_pass::Pen;
 use fof_pass::Sort;
 use fof_pass::Taken;

@@ -44,7 +44,8 @@ use Rattle.mentions.specs.Open.{unset, isUnset, isOpen, asked, Becomes}
 use Rattle.mentions.specs.Mentions.{mentionsGoal}
 use Rattle.heads.specs.Heads.{clauseWord}
 use Rattle.heads.proofs.HeadLaws.{goal-says, goal-is, clause-says, heads, first-part, second-found, first-found, part-stands}
-use Rattle.unset.specs.Unset.{Holding, MayBe}
+use Rattle.held.specs.Held.{Holding}
+use Rattle.unset.specs.Unset.{MayBe}
 use Rattle.proving.specs.Stock.{Stock, Keeps}
 use Rattle.proving.specs.Proving.{Ready, Taken, Answers, Proving, Passing, passes}
 use Rattle.proving.specs.Parts.{PartsAt, PartsOf, CoreAt, isPlain, quantifiers, core, variableWord, bodyPlace}

@@ -9,7 +9,7 @@ use places::word_there;
 use room::Where;
 use room::part;
 use sexp::After;
-use unset::holds;
+use held::holds;
 ghost use mathlib.Core.Path.{_≡_};
 ghost use mathlib.Core.Bool.{true};
 ghost use lib.ListN.{getD};

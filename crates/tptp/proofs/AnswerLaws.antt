@@ -6,7 +6,7 @@ use mathlib.Core.Logic.{_↔_}
 use native.Mathlib.Omega.{arith}
 use lib.ListN.{length, getD}
 use Rattle.packet.specs.File.{mostBytes}
-use Rattle.fof_grammar.specs.Sound.{Sound}
+use Rattle.fof_productions.specs.Sound.{Sound}
 use Rattle.fof_truth.specs.Formula.{Line}
 use Rattle.fof_truth.specs.Part.{BookInPart}
 use Rattle.fof_truth.specs.Book.{Why}

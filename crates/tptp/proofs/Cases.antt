@@ -7,7 +7,7 @@ use Rattle.fof_tokens.specs.Bytes.{isSpace, isAlnum, isSign, isExponent, isPlai
 use Rattle.fof_tokens.specs.Machine.{scan, soonest}
 use Rattle.fof_tokens.specs.Next.{pieceAt, tokensFrom, tokensAt, tokens}
 use Rattle.grammar.specs.Machine.{accepts}
-use Rattle.fof_grammar.specs.Sound.{sound}
+use Rattle.fof_productions.specs.Sound.{sound}
 use Rattle.fof_part.specs.Due.{dueAt, run, formulaAt}
 use Rattle.fof_part.specs.Lines.{lineAt, linesFrom, linesAt}
 use Rattle.fof_part.specs.Made.{sizedMarks, madeOf}

@@ -15,8 +15,8 @@ use Rattle.pen.proofs.LaidLaws.{laid-over}
 use Rattle.fof_tokens.specs.Token.{Token}
 use Rattle.fof_tokens.specs.Next.{tokens}
 use Rattle.fof_tokens.proofs.CutsLaws.{tokens-right}
-use Rattle.fof_grammar.specs.Sound.{sound, soundBook}
-use Rattle.fof_grammar.proofs.Soundly.{sound-exactly, refused-exactly}
+use Rattle.fof_productions.specs.Sound.{sound, soundBook}
+use Rattle.fof_productions.proofs.Soundly.{sound-exactly, refused-exactly}
 use Rattle.fof_truth.specs.Formula.{Role}
 use Rattle.fof_truth.specs.Book.{Why, whyNumber}
 use Rattle.fof_part.specs.Sign.{signs}

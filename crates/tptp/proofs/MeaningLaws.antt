@@ -15,8 +15,8 @@ use Rattle.packet.specs.File.{mostBytes}
 use Rattle.fof_tokens.specs.Token.{Token}
 use Rattle.fof_tokens.specs.Next.{tokens}
 use Rattle.fof_tokens.proofs.CutsLaws.{tokens-right, cut-once, no-tokens}
-use Rattle.fof_grammar.specs.Sound.{Sound, sound}
-use Rattle.fof_grammar.proofs.Soundly.{sound-exactly, refused-exactly}
+use Rattle.fof_productions.specs.Sound.{Sound, sound}
+use Rattle.fof_productions.proofs.Soundly.{sound-exactly, refused-exactly}
 use Rattle.fof_truth.specs.Formula.{Role, Line}
 use Rattle.fof_truth.specs.Part.{BookInPart}
 use Rattle.fof_truth.specs.Book.{sentencesOf, withGoal, Book, Why, Outcome, bookOf}

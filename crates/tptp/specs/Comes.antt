@@ -11,7 +11,7 @@ use Rattle.basics.specs.Choice.{choose, maybe}
 use Rattle.packet.specs.File.{mostBytes}
 use Rattle.fof_tokens.specs.Token.{Token}
 use Rattle.fof_tokens.specs.Next.{tokens}
-use Rattle.fof_grammar.specs.Sound.{sound}
+use Rattle.fof_productions.specs.Sound.{sound}
 use Rattle.fof_truth.specs.Book.{Why, whyNumber}
 use Rattle.fof_part.specs.Sign.{signs}
 use Rattle.fof_part.specs.Lines.{linesAt}

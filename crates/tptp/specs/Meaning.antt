@@ -7,7 +7,7 @@ use lib.ListN.{length}
 use Rattle.packet.specs.File.{mostBytes}
 use Rattle.fof_tokens.specs.Token.{Token}
 use Rattle.fof_tokens.specs.Cuts.{Cuts}
-use Rattle.fof_grammar.specs.Sound.{Sound}
+use Rattle.fof_productions.specs.Sound.{Sound}
 use Rattle.fof_truth.specs.Formula.{Line}
 use Rattle.fof_truth.specs.Part.{BookInPart}
 use Rattle.fof_truth.specs.Book.{Book, rulesFile, goalFile, Why}

@@ -46,7 +46,8 @@ use Rattle.mentions.specs.Open.{isOpen, asked, Becomes}
 use Rattle.keys.proofs.WalkLaws.{candidate-meant, no-f-v, no-e-v}
 use Rattle.unset.specs.declared.Forced.{Forced}
 use Rattle.unset.specs.declared.Forced.the-variants as F
-use Rattle.unset.specs.Unset.{Holding, Small, MayBe, ForcedAs, Forces}
+use Rattle.held.specs.Held.{Holding}
+use Rattle.unset.specs.Unset.{Small, MayBe, ForcedAs, Forces}
 use Rattle.unset.specs.Head.{DiffersAt, NoneOf, CandidateOf, CandidateAt, isVariable, VariableAt}
 
 neither : (a b : Bool) → a || b ≡ false → (a ≡ false) × (b ≡ false)

@@ -1,3 +1,2 @@
 pub mod CandidateLaws
 pub mod HeadLaws
-pub mod VariableLaws

@@ -6,36 +6,19 @@ use mathlib.Core.List.{List}
 use mathlib.Core.Option.{some}
 use lib.ListN.{length, getElem?}
 use Rattle.harrop.specs.declared.Binding.the-variants.{Candidate}
-use Rattle.harrop.specs.Formula.{Term, Atom, Goal, Clause}
+use Rattle.harrop.specs.Formula.{Term, Atom}
 use Rattle.harrop.specs.Bindings.{Bindings, meant, valueOf, replacedAtom, sameAtom}
-use Rattle.harrop.specs.Place.{Plain}
-use Rattle.sexp.specs.Sexp.{Stands, nesting}
-use Rattle.packet.specs.Written.{termSexp, goalSexp, clauseSexp}
-use Rattle.packet.specs.Barred.{termOk, goalOk, clauseOk}
 use Rattle.packet.specs.File.{mostBytes}
-use Rattle.room.specs.Layout.{levels}
 use Rattle.room.specs.Spot.{fileOf, bindingsAt}
 use Rattle.room.specs.Table.{CandidatesIn}
 use Rattle.equal.specs.Term.{AtomAt}
 use Rattle.room.specs.Where.{Files}
 use Rattle.room.specs.declared.Source.{Source}
 use Rattle.room.specs.declared.Spot.{Spot}
-use Rattle.mentions.specs.Mentions.{insides, mentionsTerm, mentionsGoal, mentionsClause}
 use Rattle.mentions.specs.Open.{Becomes}
 use Rattle.keys.specs.Keys.{CandidateKeys}
-use Rattle.unset.specs.Held.{HeldAt}
 use Rattle.unset.specs.declared.Forced.{Forced}
 use Rattle.unset.specs.declared.Forced.the-variants as F
-
--- the answer is whether the term, the goal or the clause at an offset holds a variable with a property, asked so many quantifiers inside. Any expression may stand there
-pub record Holding (s : List ℕ) (at depth nest : ℕ) (p : ℕ → Bool) (r : Bool) : Type 0 where
-  pub expression : HeldAt s at depth nest p r
-  pub term : (t : Term) (holds : Bool) (around : ℕ) → Stands s at (termSexp t) → nesting (termSexp t) ≤ nest → nest ≤ levels → depth + nest ≤ mostBytes → around ≤ levels → termOk holds around t ≡ true
-      → r ≡ mentionsTerm (insides depth p) t
-  pub goal : (g : Goal Plain) (around : ℕ) → Stands s at (goalSexp g) → nesting (goalSexp g) ≤ nest → nest ≤ levels → depth + nest ≤ mostBytes → around ≤ levels → goalOk around g ≡ true
-      → r ≡ mentionsGoal (insides depth p) g
-  pub clause : (d : Clause Plain) (around : ℕ) → Stands s at (clauseSexp d) → nesting (clauseSexp d) ≤ nest → nest ≤ levels → depth + nest ≤ mostBytes → around ≤ levels → clauseOk around d ≡ true
-      → r ≡ mentionsClause (insides depth p) d
 
 -- no file is longer than refusal 1 lets it be
 abbrev pub Small : Files → Type 0

@@ -1,7 +1,7 @@
 // A head beside an atom, where the head's frame is not all set: whether it may still become the atom, and which candidate the atom forces on one of its variables.
 // An argument of the head that holds an unset variable decides nothing; any other is compared as it stands.
 use crate::Forced;
-use crate::variables::holds;
+use held::holds;
 use equal::same_terms;
 use harrop::Binding;
 use keys::term_key;

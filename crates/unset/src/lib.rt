@@ -1,11 +1,8 @@
 // Frames in which some variables are not set yet: what an expression asks of them, whether a head may still be an atom, and which candidate the atom forces on a variable (document 02, Three).
 mod head;
-mod variables;
 
 pub use head::forced_by;
 pub use head::may_be;
-pub use variables::holds;
-pub use variables::is_open;
 
 // What an atom forces on a variable: nothing, a candidate, or more than any candidate can give.
 pub enum Forced {

@@ -1,12 +1,12 @@
 // The walk down the strip: each node judged at its own place, then its parts at theirs (document 01, "When a strip fits").
-use crate::enter::enter_all;
-use crate::enter::enter_and;
-use crate::enter::enter_imp;
-use crate::enter::enter_left;
-use crate::enter::enter_right;
-use crate::enter::enter_some;
-use crate::enter::enter_top;
-use crate::enter::rank;
+use enter::enter_all;
+use enter::enter_and;
+use enter::enter_imp;
+use enter::enter_left;
+use enter::enter_right;
+use enter::enter_some;
+use enter::enter_top;
+use enter::rank;
 use places::plus;
 use reader::word_at;
 use room::Where;

@@ -6,8 +6,8 @@ use mathlib.Core.List.{List, map}
 use lib.ListN.{length, drop}
 use borrow.Author.Needs.{needs}
 use Rattle.grammar.specs.Machine.{ahead}
-use Rattle.fof_grammar.specs.Terminal.{Terminal, code}
-use Rattle.fof_grammar.specs.Decided.{decided}
+use Rattle.fof_productions.specs.Terminal.{Terminal, code}
+use Rattle.fof_productions.specs.Decided.{decided}
 use Rattle.fof_grammar.proofs.AheadLaws.{skips, stops, over}
 use Rattle.fof_grammar.proofs.machine.beyond.Statement.{statement}
 use Rattle.fof_grammar.proofs.machine.beyond.Tie as tie

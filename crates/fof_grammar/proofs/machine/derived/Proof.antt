@@ -6,9 +6,9 @@ use mir.Syntax.{w64}
 use mathlib.Core.List.{[], _∷_}
 use lib.Dec.{eqb}
 use Rattle.grammar.specs.Derives.{any}
-use Rattle.fof_grammar.specs.Name.{file}
+use Rattle.fof_productions.specs.Name.{file}
 use borrow.Author.Needs.{needs, fits-under}
-use Rattle.fof_grammar.proofs.Same.{as-decided, tells-published}
+use Rattle.fof_productions.proofs.Same.{as-decided, tells-published}
 use Rattle.fof_grammar.proofs.Running.{Running, dueAt, starts, symbol-low, name-low, token-next, token-fails, name-fails, name-room, name-next, in-room, nearby, finishes}
 use Rattle.fof_grammar.proofs.machine.derived.Statement.{statement}
 use Rattle.fof_grammar.proofs.machine.derived.Tie as tie

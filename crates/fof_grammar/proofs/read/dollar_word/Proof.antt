@@ -2,7 +2,7 @@ use mathlib.Core.Path.{refl}
 use mathlib.Core.Bool.{true, false}
 use borrow.Author.Needs.{needs}
 use Rattle.basics.specs.Text.{octets}
-use Rattle.fof_grammar.specs.Terminal.{sameOctets}
+use Rattle.fof_productions.specs.Terminal.{sameOctets}
 use Rattle.fof_grammar.proofs.ReadLaws.{said, by-dollar}
 use Rattle.fof_grammar.proofs.read.dollar_word.Statement.{statement}
 use Rattle.fof_grammar.proofs.read.dollar_word.Tie as tie

@@ -1,7 +1,7 @@
 use mathlib.Core.Path.{ap, sym, _∙_}
 use borrow.Author.Needs.{needs}
 use Rattle.fof_tokens.specs.declared.Kind.{Kind}
-use Rattle.fof_grammar.specs.Terminal.{terminal, code}
+use Rattle.fof_productions.specs.Terminal.{terminal, code}
 use Rattle.fof_grammar.proofs.read.number.Statement.{statement}
 use Rattle.fof_grammar.proofs.read.number.Tie as tie
 use Rattle.fof_grammar.proofs.read.number.Reads as reads

@@ -3,8 +3,8 @@ use mathlib.Core.Path.{_∙_}
 use mathlib.Core.List.{map}
 use lib.ListN.{length, length-replicate}
 use borrow.Author.Needs.{needs}
-use Rattle.fof_grammar.specs.Sound.{terminalOf}
-use Rattle.fof_grammar.proofs.Soundly.{too-long, not-cut, cut-derived}
+use Rattle.fof_productions.specs.Sound.{terminalOf}
+use Rattle.fof_productions.proofs.Soundly.{too-long, not-cut, cut-derived}
 use Rattle.fof_grammar.proofs.ReadLaws.{counted, uncut, short-prefix, prefix-length, prefix-few, same-room}
 use Rattle.fof_grammar.proofs.recognise.sound_text.Statement.{statement}
 use Rattle.fof_grammar.proofs.recognise.sound_text.Tie as tie

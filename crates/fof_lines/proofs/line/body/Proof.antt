@@ -12,7 +12,7 @@ use Rattle.fof_lines.proofs.line.body.Reads as reads
 use Rattle.fof_lines.proofs.line.body.Lts as lts
 use Rattle.fof_pass.proofs.take.Reads as take-reads
 use Rattle.fof_lines.proofs.line.unclosed.Reads as unclosed-reads
-use Rattle.fof_lines.proofs.run.formula.Reads as formula-reads
+use Rattle.fof_act.proofs.formula.Reads as formula-reads
 
 -- src/line.rt:141:9
 formula-requires : tie.Need-formula-requires

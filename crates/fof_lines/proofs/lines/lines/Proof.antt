@@ -1,7 +1,7 @@
 -- `lines` of src/lines.rt meets its contract. Assumes nothing.
 use Rattle.fof_lines.proofs.LinesLaws.{Sofar, sofar-start, sofar-end, sofar-over, sofar-counted, sofar-refused, sofar-next, kept-none, kept-then, kept-roomy}
 use Rattle.fof_lines.specs.Lined.{KeptBoth}
-use Rattle.fof_lines.specs.Holding.{Roomy}
+use Rattle.fof_act.specs.Holding.{Roomy}
 use Rattle.fof_pass.specs.Ahead.{signsAt}
 use Rattle.fof_part.specs.Sign.{Sign}
 use borrow.Author.Tests.{not-true, not-false}

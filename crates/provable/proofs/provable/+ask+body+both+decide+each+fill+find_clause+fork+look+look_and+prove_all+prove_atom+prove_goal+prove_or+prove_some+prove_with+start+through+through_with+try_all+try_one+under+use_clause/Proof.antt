@@ -125,7 +125,7 @@ use Rattle.table.proofs.forget.Reads as forget-reads
 use Rattle.table.proofs.keep.Reads as keep-reads
 use Rattle.table.proofs.slot_for.Reads as slot-for-reads
 use Rattle.unset.proofs.may_be.Reads as may-be-reads
-use Rattle.unset.proofs.is_open.Reads as is-open-reads
+use Rattle.held.proofs.is_open.Reads as is-open-reads
 use Rattle.provable.proofs.provable.+ask+body+both+decide+each+fill+find_clause+fork+look+look_and+prove_all+prove_atom+prove_goal+prove_or+prove_some+prove_with+start+through+through_with+try_all+try_one+under+use_clause.{
   statement,
 }

@@ -7,7 +7,7 @@ use Rattle.provable.proofs.provable.is_due.Tie as tie
 use Rattle.provable.proofs.provable.is_due.Reads as reads
 use Rattle.provable.proofs.provable.is_due.Lts as lts
 use Rattle.room.proofs.part.Reads as part-reads
-use Rattle.unset.proofs.holds.Reads as holds-reads
+use Rattle.held.proofs.holds.Reads as holds-reads
 
 -- src/provable.rt:363:9
 part-requires : tie.Need-part-requires

@@ -9,7 +9,7 @@ use Rattle.unset.proofs.head.differs.Reads as reads
 use Rattle.unset.proofs.head.differs.Lts as lts
 use Rattle.equal.proofs.same_terms.Reads as same-terms-reads
 use Rattle.room.proofs.part.Reads as part-reads
-use Rattle.unset.proofs.variables.holds.Reads as holds-reads
+use Rattle.held.proofs.holds.Reads as holds-reads
 
 -- src/head.rt:40:9
 part-requires : tie.Need-part-requires

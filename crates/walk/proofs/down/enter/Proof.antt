@@ -2,7 +2,7 @@
 use denote.Ref.{now}
 use Rattle.packet.specs.Table.{rank}
 use Rattle.packet.specs.declared.Word.the-variants as W
-use Rattle.walk.proofs.EnterLaws.{node-word, no-node}
+use Rattle.enter.proofs.EnterLaws.{node-word, no-node}
 use borrow.Author.Needs.{needs}
 use Rattle.walk.proofs.down.enter.Statement.{statement}
 use Rattle.walk.proofs.down.enter.Tie as tie

@@ -1,0 +1,2 @@
+pub mod ActLaws
+pub mod RunLaws

@@ -1,0 +1,5 @@
+pub mod Once
+pub mod Right
+pub mod Same
+pub mod Soundly
+pub mod Examples
