@@ -1,13 +1,12 @@
 // The first option that has a proof, by number: a candidate for a `some`, a clause for an atom, a candidate on the way into a clause (document 01, "Which strip the search writes").
 // Each is asked of crate provable in order, and none after the first that does; where a search has left the numbers of a path in the room they are read there.
 use harrop::Binding;
-use keys::atom_key;
-use keys::predicate_key;
+use keys::both_keys;
 use places::plus;
-use proving::candidates;
 use provable::find_clause;
 use provable::prove_with;
 use provable::through_with;
+use proving::candidates;
 use room::Spot;
 use room::Where;
 use room::variable;
@@ -50,9 +49,8 @@ pub fn first_clause<'a>(
 ) -> usize
     ensures { λ r. ⌜ FirstClause (filesOf (now (rules .entry)) (now (goal .entry)) (now (terms .entry))) (now (room .entry)) (now (room .exit)) w left r × LocatingAt (filesOf (now (rules .entry)) (now (goal .entry)) (now (terms .entry))) (now (room .entry)) (now (room .exit)) w left r ⌝ }
 {
-    let predicate = predicate_key(rules, goal, terms, w.goal);
-    let key = atom_key(rules, goal, terms, room, w.goal);
-    find_clause(rules, goal, terms, room, w, predicate, key, left)
+    let of = both_keys(rules, goal, terms, room, w.goal);
+    find_clause(rules, goal, terms, room, w, of.predicate, of.key, left)
 }
 
 // The first candidate with which a path through the clause of an `all` ends well.

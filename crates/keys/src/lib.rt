@@ -6,7 +6,8 @@ mod rule;
 mod table;
 mod term;
 
-pub use atom::atom_key;
+pub use atom::Both;
+pub use atom::both_keys;
 pub use atom::predicate_key;
 pub use next::next_clause;
 pub use rule::rule_key;

@@ -1,25 +1,12 @@
 // Whether a goal has a proof within a height (document 01: "Proving a goal needs the proof of clause bodies, and those are goals again; the height left falls at each turn").
 // The search of a goal calls the search over the clauses at hand, each of which is taken apart from outside; that calls the search of a goal for the body, with one less.
-use proving::Chosen;
-use proving::candidates;
-use proving::clauses;
-use proving::deeper;
-use proving::is_fact;
-use proving::open_clause;
-use proving::Parts;
-use proving::body_place;
-use proving::parts_of;
-use proving::settle;
-use proving::unset_all;
-use proving::word_of;
-use proving::is_left_out;
-use proving::narrow_body;
 use equal::same_atoms;
 use harrop::Binding;
 use heads::has_head;
-use keys::atom_key;
+use held::holds;
+use held::is_open;
+use keys::both_keys;
 use keys::next_clause;
-use keys::predicate_key;
 use packet::Word;
 use places::bound;
 use places::further;
@@ -28,6 +15,20 @@ use places::plus;
 use places::supposes;
 use places::within;
 use places::word_there;
+use proving::Chosen;
+use proving::Parts;
+use proving::body_place;
+use proving::candidates;
+use proving::clauses;
+use proving::deeper;
+use proving::is_fact;
+use proving::is_left_out;
+use proving::narrow_body;
+use proving::open_clause;
+use proving::parts_of;
+use proving::settle;
+use proving::unset_all;
+use proving::word_of;
 use room::Spot;
 use room::Where;
 use room::part;
@@ -40,8 +41,6 @@ use table::forget;
 use table::keep;
 use table::recall;
 use table::slot_for;
-use held::holds;
-use held::is_open;
 use unset::may_be;
 ghost use mathlib.Core.Path.{_≡_};
 ghost use mathlib.Core.Bool.{true};
@@ -209,17 +208,16 @@ fn prove_atom<'a>(
 ) -> bool
     ensures { λ r. ⌜ ProvingAs W.Atom (filesOf (now (rules .entry)) (now (goal .entry)) (now (terms .entry))) (now (room .entry)) (now (room .exit)) w left r ⌝ }
 {
-    let predicate = predicate_key(rules, goal, terms, w.goal);
-    let key = atom_key(rules, goal, terms, room, w.goal);
+    let of = both_keys(rules, goal, terms, room, w.goal);
     let n = clauses(room, w.supposed);
-    if n <= next_clause(room, predicate, key, 0, n) {
+    if n <= next_clause(room, of.predicate, of.key, 0, n) {
         return false;
     }
-    let at = slot_for(room, (key / 2) as usize);
+    let at = slot_for(room, (of.key / 2) as usize);
     match recall(rules, goal, terms, room, w, plus(left, 1), at) {
         Recalled::No => false,
         Recalled::Yes => true,
-        Recalled::Unknown => decide(rules, goal, terms, room, w, predicate, key, at, left),
+        Recalled::Unknown => decide(rules, goal, terms, room, w, of.predicate, of.key, at, left),
     }
 }
 

@@ -5,12 +5,8 @@ use Rattle.drawing.proofs.first.first_clause.Statement.{statement}
 use Rattle.drawing.proofs.first.first_clause.Tie as tie
 
 -- src/first.rt:47:9
-predicate-key-requires : tie.Need-predicate-key-requires
-predicate-key-requires c κs = search needs
-
--- src/first.rt:48:9
-atom-key-requires : tie.Need-atom-key-requires
-atom-key-requires c κs = search needs
+both-keys-requires : tie.Need-both-keys-requires
+both-keys-requires c κs = search needs
 
 -- src/first.rt:49:5
 find-clause-requires : tie.Need-find-clause-requires
@@ -23,12 +19,11 @@ same-length c = search needs
 -- src/first.rt:37:1
 returns : tie.Need-returns
 returns c =
-    let p = c .before .before .before .before .before .before .predicate-key .ensures in
-    let k = c .before .before .before .before .atom-key .ensures in
+    let k = c .before .before .before .before .both-keys .ensures in
     let m = c .before .before .find-clause .ensures in
-    (laws.clause-found p k (m .0), laws.clause-located p k (m .1))
+    (laws.clause-found (k .0) (k .1) (m .0), laws.clause-located (k .0) (k .1) (m .1))
 
 pub first-clause-spec : {M : Type 1} → statement M
 first-clause-spec =
     tie.close
-    (tie.spec predicate-key-requires atom-key-requires find-clause-requires same-length returns)
+    (tie.spec both-keys-requires find-clause-requires same-length returns)

@@ -93,8 +93,7 @@ use Rattle.provable.proofs.provable.use_clause.Reads as use-clause
 use Rattle.provable.proofs.provable.use_clause.Kinds as use-clause-kinds
 use Rattle.provable.proofs.provable.+ask+body+both+decide+each+fill+find_clause+fork+look+look_and+prove_all+prove_atom+prove_goal+prove_or+prove_some+prove_with+start+through+through_with+try_all+try_one+under+use_clause.Lts-use_clause as use-clause-lts
 use Rattle.heads.proofs.has_head.Reads as has-head-reads
-use Rattle.keys.proofs.atom_key.Reads as atom-key-reads
-use Rattle.keys.proofs.predicate_key.Reads as predicate-key-reads
+use Rattle.keys.proofs.both_keys.Reads as both-keys-reads
 use Rattle.keys.proofs.next_clause.Reads as next-clause-reads
 use Rattle.proving.proofs.candidates.Reads as candidates-reads
 use Rattle.proving.proofs.clauses.Reads as clauses-reads
@@ -868,85 +867,81 @@ prove-all-same-length t c = search needs
 prove-all-returns-2 : (t : ℕ) → prove-all-lts.Need-returns-2 (push-reads.Asked, push-reads.Learnt, bound-reads.Asked, bound-reads.Learnt, prove-goal-below t, prove-goal.Post) (prove-all-at t) prove-all.Post
 prove-all-returns-2 t c = laws.all-goes {p = c .before .before .before .before .before .before .before .before .before .before .before .before .before .before .before .before .args .w .parameters + 1} refl (c .before .before .before .bound .ensures) (laws.proving-from (c .before .before .before .before .before .before .before .push .ensures) (c .before .before .prove-goal .ensures))
 
--- src/provable.rt:212:9
-prove-atom-predicate-key-requires : (t : ℕ) → prove-atom-lts.Need-predicate-key-requires (predicate-key-reads.Asked, predicate-key-reads.Learnt, atom-key-reads.Asked, atom-key-reads.Learnt, clauses-reads.Asked, clauses-reads.Learnt, next-clause-reads.Asked, next-clause-reads.Learnt, slot-for-reads.Asked, slot-for-reads.Learnt, plus-reads.Asked, plus-reads.Learnt, recall-reads.Asked, recall-reads.Learnt, decide-below t, decide.Post) (prove-atom-at t) prove-atom.Post
-prove-atom-predicate-key-requires t c κs = search needs
-
 -- src/provable.rt:213:9
-prove-atom-atom-key-requires : (t : ℕ) → prove-atom-lts.Need-atom-key-requires (predicate-key-reads.Asked, predicate-key-reads.Learnt, atom-key-reads.Asked, atom-key-reads.Learnt, clauses-reads.Asked, clauses-reads.Learnt, next-clause-reads.Asked, next-clause-reads.Learnt, slot-for-reads.Asked, slot-for-reads.Learnt, plus-reads.Asked, plus-reads.Learnt, recall-reads.Asked, recall-reads.Learnt, decide-below t, decide.Post) (prove-atom-at t) prove-atom.Post
-prove-atom-atom-key-requires t c κs = search needs
+prove-atom-both-keys-requires : (t : ℕ) → prove-atom-lts.Need-both-keys-requires (both-keys-reads.Asked, both-keys-reads.Learnt, clauses-reads.Asked, clauses-reads.Learnt, next-clause-reads.Asked, next-clause-reads.Learnt, slot-for-reads.Asked, slot-for-reads.Learnt, plus-reads.Asked, plus-reads.Learnt, recall-reads.Asked, recall-reads.Learnt, decide-below t, decide.Post) (prove-atom-at t) prove-atom.Post
+prove-atom-both-keys-requires t c κs = search needs
 
 -- src/provable.rt:214:9
-prove-atom-clauses-requires : (t : ℕ) → prove-atom-lts.Need-clauses-requires (predicate-key-reads.Asked, predicate-key-reads.Learnt, atom-key-reads.Asked, atom-key-reads.Learnt, clauses-reads.Asked, clauses-reads.Learnt, next-clause-reads.Asked, next-clause-reads.Learnt, slot-for-reads.Asked, slot-for-reads.Learnt, plus-reads.Asked, plus-reads.Learnt, recall-reads.Asked, recall-reads.Learnt, decide-below t, decide.Post) (prove-atom-at t) prove-atom.Post
+prove-atom-clauses-requires : (t : ℕ) → prove-atom-lts.Need-clauses-requires (both-keys-reads.Asked, both-keys-reads.Learnt, clauses-reads.Asked, clauses-reads.Learnt, next-clause-reads.Asked, next-clause-reads.Learnt, slot-for-reads.Asked, slot-for-reads.Learnt, plus-reads.Asked, plus-reads.Learnt, recall-reads.Asked, recall-reads.Learnt, decide-below t, decide.Post) (prove-atom-at t) prove-atom.Post
 prove-atom-clauses-requires t c κs = search needs
 
 -- src/provable.rt:215:13
-prove-atom-next-clause-requires : (t : ℕ) → prove-atom-lts.Need-next-clause-requires (predicate-key-reads.Asked, predicate-key-reads.Learnt, atom-key-reads.Asked, atom-key-reads.Learnt, clauses-reads.Asked, clauses-reads.Learnt, next-clause-reads.Asked, next-clause-reads.Learnt, slot-for-reads.Asked, slot-for-reads.Learnt, plus-reads.Asked, plus-reads.Learnt, recall-reads.Asked, recall-reads.Learnt, decide-below t, decide.Post) (prove-atom-at t) prove-atom.Post
+prove-atom-next-clause-requires : (t : ℕ) → prove-atom-lts.Need-next-clause-requires (both-keys-reads.Asked, both-keys-reads.Learnt, clauses-reads.Asked, clauses-reads.Learnt, next-clause-reads.Asked, next-clause-reads.Learnt, slot-for-reads.Asked, slot-for-reads.Learnt, plus-reads.Asked, plus-reads.Learnt, recall-reads.Asked, recall-reads.Learnt, decide-below t, decide.Post) (prove-atom-at t) prove-atom.Post
 prove-atom-next-clause-requires t c κs = search needs
 
 -- src/provable.rt:216:9
-prove-atom-same-length : (t : ℕ) → prove-atom-lts.Need-same-length (predicate-key-reads.Asked, predicate-key-reads.Learnt, atom-key-reads.Asked, atom-key-reads.Learnt, clauses-reads.Asked, clauses-reads.Learnt, next-clause-reads.Asked, next-clause-reads.Learnt, slot-for-reads.Asked, slot-for-reads.Learnt, plus-reads.Asked, plus-reads.Learnt, recall-reads.Asked, recall-reads.Learnt, decide-below t, decide.Post) (prove-atom-at t) prove-atom.Post
+prove-atom-same-length : (t : ℕ) → prove-atom-lts.Need-same-length (both-keys-reads.Asked, both-keys-reads.Learnt, clauses-reads.Asked, clauses-reads.Learnt, next-clause-reads.Asked, next-clause-reads.Learnt, slot-for-reads.Asked, slot-for-reads.Learnt, plus-reads.Asked, plus-reads.Learnt, recall-reads.Asked, recall-reads.Learnt, decide-below t, decide.Post) (prove-atom-at t) prove-atom.Post
 prove-atom-same-length t c = search needs
 
 -- src/provable.rt:216:9
-prove-atom-returns : (t : ℕ) → prove-atom-lts.Need-returns (predicate-key-reads.Asked, predicate-key-reads.Learnt, atom-key-reads.Asked, atom-key-reads.Learnt, clauses-reads.Asked, clauses-reads.Learnt, next-clause-reads.Asked, next-clause-reads.Learnt, slot-for-reads.Asked, slot-for-reads.Learnt, plus-reads.Asked, plus-reads.Learnt, recall-reads.Asked, recall-reads.Learnt, decide-below t, decide.Post) (prove-atom-at t) prove-atom.Post
-prove-atom-returns t c = atoms.atom-barred (c .before .before .before .clauses .result) (c .before .next-clause .result) (c .before .before .before .before .before .before .before .predicate-key .ensures) (c .before .before .before .before .before .atom-key .ensures) (c .before .before .before .clauses .ensures) (c .before .next-clause .ensures) (c .if1 .taken)
+prove-atom-returns : (t : ℕ) → prove-atom-lts.Need-returns (both-keys-reads.Asked, both-keys-reads.Learnt, clauses-reads.Asked, clauses-reads.Learnt, next-clause-reads.Asked, next-clause-reads.Learnt, slot-for-reads.Asked, slot-for-reads.Learnt, plus-reads.Asked, plus-reads.Learnt, recall-reads.Asked, recall-reads.Learnt, decide-below t, decide.Post) (prove-atom-at t) prove-atom.Post
+prove-atom-returns t c = atoms.atom-barred (c .before .before .before .clauses .result) (c .before .next-clause .result) (c .before .before .before .before .before .both-keys .ensures .0) (c .before .before .before .before .before .both-keys .ensures .1) (c .before .before .before .clauses .ensures) (c .before .next-clause .ensures) (c .if1 .taken)
 
 -- src/provable.rt:218:29
-prove-atom-cast-slot-for : (t : ℕ) → prove-atom-lts.Need-cast-slot-for (predicate-key-reads.Asked, predicate-key-reads.Learnt, atom-key-reads.Asked, atom-key-reads.Learnt, clauses-reads.Asked, clauses-reads.Learnt, next-clause-reads.Asked, next-clause-reads.Learnt, slot-for-reads.Asked, slot-for-reads.Learnt, plus-reads.Asked, plus-reads.Learnt, recall-reads.Asked, recall-reads.Learnt, decide-below t, decide.Post) (prove-atom-at t) prove-atom.Post
+prove-atom-cast-slot-for : (t : ℕ) → prove-atom-lts.Need-cast-slot-for (both-keys-reads.Asked, both-keys-reads.Learnt, clauses-reads.Asked, clauses-reads.Learnt, next-clause-reads.Asked, next-clause-reads.Learnt, slot-for-reads.Asked, slot-for-reads.Learnt, plus-reads.Asked, plus-reads.Learnt, recall-reads.Asked, recall-reads.Learnt, decide-below t, decide.Post) (prove-atom-at t) prove-atom.Post
 prove-atom-cast-slot-for t c = search needs
 
 -- src/provable.rt:218:9
-prove-atom-slot-for-requires : (t : ℕ) → prove-atom-lts.Need-slot-for-requires (predicate-key-reads.Asked, predicate-key-reads.Learnt, atom-key-reads.Asked, atom-key-reads.Learnt, clauses-reads.Asked, clauses-reads.Learnt, next-clause-reads.Asked, next-clause-reads.Learnt, slot-for-reads.Asked, slot-for-reads.Learnt, plus-reads.Asked, plus-reads.Learnt, recall-reads.Asked, recall-reads.Learnt, decide-below t, decide.Post) (prove-atom-at t) prove-atom.Post
+prove-atom-slot-for-requires : (t : ℕ) → prove-atom-lts.Need-slot-for-requires (both-keys-reads.Asked, both-keys-reads.Learnt, clauses-reads.Asked, clauses-reads.Learnt, next-clause-reads.Asked, next-clause-reads.Learnt, slot-for-reads.Asked, slot-for-reads.Learnt, plus-reads.Asked, plus-reads.Learnt, recall-reads.Asked, recall-reads.Learnt, decide-below t, decide.Post) (prove-atom-at t) prove-atom.Post
 prove-atom-slot-for-requires t c κs = search needs
 
 -- src/provable.rt:219:47
-prove-atom-plus-requires : (t : ℕ) → prove-atom-lts.Need-plus-requires (predicate-key-reads.Asked, predicate-key-reads.Learnt, atom-key-reads.Asked, atom-key-reads.Learnt, clauses-reads.Asked, clauses-reads.Learnt, next-clause-reads.Asked, next-clause-reads.Learnt, slot-for-reads.Asked, slot-for-reads.Learnt, plus-reads.Asked, plus-reads.Learnt, recall-reads.Asked, recall-reads.Learnt, decide-below t, decide.Post) (prove-atom-at t) prove-atom.Post
+prove-atom-plus-requires : (t : ℕ) → prove-atom-lts.Need-plus-requires (both-keys-reads.Asked, both-keys-reads.Learnt, clauses-reads.Asked, clauses-reads.Learnt, next-clause-reads.Asked, next-clause-reads.Learnt, slot-for-reads.Asked, slot-for-reads.Learnt, plus-reads.Asked, plus-reads.Learnt, recall-reads.Asked, recall-reads.Learnt, decide-below t, decide.Post) (prove-atom-at t) prove-atom.Post
 prove-atom-plus-requires t c κs = search needs
 
 -- src/provable.rt:219:11
-prove-atom-recall-requires : (t : ℕ) → prove-atom-lts.Need-recall-requires (predicate-key-reads.Asked, predicate-key-reads.Learnt, atom-key-reads.Asked, atom-key-reads.Learnt, clauses-reads.Asked, clauses-reads.Learnt, next-clause-reads.Asked, next-clause-reads.Learnt, slot-for-reads.Asked, slot-for-reads.Learnt, plus-reads.Asked, plus-reads.Learnt, recall-reads.Asked, recall-reads.Learnt, decide-below t, decide.Post) (prove-atom-at t) prove-atom.Post
+prove-atom-recall-requires : (t : ℕ) → prove-atom-lts.Need-recall-requires (both-keys-reads.Asked, both-keys-reads.Learnt, clauses-reads.Asked, clauses-reads.Learnt, next-clause-reads.Asked, next-clause-reads.Learnt, slot-for-reads.Asked, slot-for-reads.Learnt, plus-reads.Asked, plus-reads.Learnt, recall-reads.Asked, recall-reads.Learnt, decide-below t, decide.Post) (prove-atom-at t) prove-atom.Post
 prove-atom-recall-requires t c κs = search needs
 
 -- src/provable.rt:220:25
-prove-atom-enum-told : (t : ℕ) → prove-atom-lts.Need-enum-told (predicate-key-reads.Asked, predicate-key-reads.Learnt, atom-key-reads.Asked, atom-key-reads.Learnt, clauses-reads.Asked, clauses-reads.Learnt, next-clause-reads.Asked, next-clause-reads.Learnt, slot-for-reads.Asked, slot-for-reads.Learnt, plus-reads.Asked, plus-reads.Learnt, recall-reads.Asked, recall-reads.Learnt, decide-below t, decide.Post) (prove-atom-at t) prove-atom.Post
+prove-atom-enum-told : (t : ℕ) → prove-atom-lts.Need-enum-told (both-keys-reads.Asked, both-keys-reads.Learnt, clauses-reads.Asked, clauses-reads.Learnt, next-clause-reads.Asked, next-clause-reads.Learnt, slot-for-reads.Asked, slot-for-reads.Learnt, plus-reads.Asked, plus-reads.Learnt, recall-reads.Asked, recall-reads.Learnt, decide-below t, decide.Post) (prove-atom-at t) prove-atom.Post
 prove-atom-enum-told t c = search needs
 
 -- src/provable.rt:221:26
-prove-atom-enum-told-2 : (t : ℕ) → prove-atom-lts.Need-enum-told-2 (predicate-key-reads.Asked, predicate-key-reads.Learnt, atom-key-reads.Asked, atom-key-reads.Learnt, clauses-reads.Asked, clauses-reads.Learnt, next-clause-reads.Asked, next-clause-reads.Learnt, slot-for-reads.Asked, slot-for-reads.Learnt, plus-reads.Asked, plus-reads.Learnt, recall-reads.Asked, recall-reads.Learnt, decide-below t, decide.Post) (prove-atom-at t) prove-atom.Post
+prove-atom-enum-told-2 : (t : ℕ) → prove-atom-lts.Need-enum-told-2 (both-keys-reads.Asked, both-keys-reads.Learnt, clauses-reads.Asked, clauses-reads.Learnt, next-clause-reads.Asked, next-clause-reads.Learnt, slot-for-reads.Asked, slot-for-reads.Learnt, plus-reads.Asked, plus-reads.Learnt, recall-reads.Asked, recall-reads.Learnt, decide-below t, decide.Post) (prove-atom-at t) prove-atom.Post
 prove-atom-enum-told-2 t c = search needs
 
 -- src/provable.rt:222:57
-prove-atom-enum-told-3 : (t : ℕ) → prove-atom-lts.Need-enum-told-3 (predicate-key-reads.Asked, predicate-key-reads.Learnt, atom-key-reads.Asked, atom-key-reads.Learnt, clauses-reads.Asked, clauses-reads.Learnt, next-clause-reads.Asked, next-clause-reads.Learnt, slot-for-reads.Asked, slot-for-reads.Learnt, plus-reads.Asked, plus-reads.Learnt, recall-reads.Asked, recall-reads.Learnt, decide-below t, decide.Post) (prove-atom-at t) prove-atom.Post
+prove-atom-enum-told-3 : (t : ℕ) → prove-atom-lts.Need-enum-told-3 (both-keys-reads.Asked, both-keys-reads.Learnt, clauses-reads.Asked, clauses-reads.Learnt, next-clause-reads.Asked, next-clause-reads.Learnt, slot-for-reads.Asked, slot-for-reads.Learnt, plus-reads.Asked, plus-reads.Learnt, recall-reads.Asked, recall-reads.Learnt, decide-below t, decide.Post) (prove-atom-at t) prove-atom.Post
 prove-atom-enum-told-3 t c = search needs
 
 -- src/provable.rt:222:30
-prove-atom-decide-requires : (t : ℕ) → prove-atom-lts.Need-decide-requires (predicate-key-reads.Asked, predicate-key-reads.Learnt, atom-key-reads.Asked, atom-key-reads.Learnt, clauses-reads.Asked, clauses-reads.Learnt, next-clause-reads.Asked, next-clause-reads.Learnt, slot-for-reads.Asked, slot-for-reads.Learnt, plus-reads.Asked, plus-reads.Learnt, recall-reads.Asked, recall-reads.Learnt, decide-below t, decide.Post) (prove-atom-at t) prove-atom.Post
+prove-atom-decide-requires : (t : ℕ) → prove-atom-lts.Need-decide-requires (both-keys-reads.Asked, both-keys-reads.Learnt, clauses-reads.Asked, clauses-reads.Learnt, next-clause-reads.Asked, next-clause-reads.Learnt, slot-for-reads.Asked, slot-for-reads.Learnt, plus-reads.Asked, plus-reads.Learnt, recall-reads.Asked, recall-reads.Learnt, decide-below t, decide.Post) (prove-atom-at t) prove-atom.Post
 prove-atom-decide-requires t c κs = (omega (arith, c .before .before .before .before .before .before .before .before .before .before .before .before .before .before .before .before .before .before .before .before .pre .0), tt)
 
 -- src/provable.rt:202:1
-prove-atom-same-length-2 : (t : ℕ) → prove-atom-lts.Need-same-length-2 (predicate-key-reads.Asked, predicate-key-reads.Learnt, atom-key-reads.Asked, atom-key-reads.Learnt, clauses-reads.Asked, clauses-reads.Learnt, next-clause-reads.Asked, next-clause-reads.Learnt, slot-for-reads.Asked, slot-for-reads.Learnt, plus-reads.Asked, plus-reads.Learnt, recall-reads.Asked, recall-reads.Learnt, decide-below t, decide.Post) (prove-atom-at t) prove-atom.Post
+prove-atom-same-length-2 : (t : ℕ) → prove-atom-lts.Need-same-length-2 (both-keys-reads.Asked, both-keys-reads.Learnt, clauses-reads.Asked, clauses-reads.Learnt, next-clause-reads.Asked, next-clause-reads.Learnt, slot-for-reads.Asked, slot-for-reads.Learnt, plus-reads.Asked, plus-reads.Learnt, recall-reads.Asked, recall-reads.Learnt, decide-below t, decide.Post) (prove-atom-at t) prove-atom.Post
 prove-atom-same-length-2 t c = search needs
 
 -- src/provable.rt:202:1
-prove-atom-returns-2 : (t : ℕ) → prove-atom-lts.Need-returns-2 (predicate-key-reads.Asked, predicate-key-reads.Learnt, atom-key-reads.Asked, atom-key-reads.Learnt, clauses-reads.Asked, clauses-reads.Learnt, next-clause-reads.Asked, next-clause-reads.Learnt, slot-for-reads.Asked, slot-for-reads.Learnt, plus-reads.Asked, plus-reads.Learnt, recall-reads.Asked, recall-reads.Learnt, decide-below t, decide.Post) (prove-atom-at t) prove-atom.Post
+prove-atom-returns-2 : (t : ℕ) → prove-atom-lts.Need-returns-2 (both-keys-reads.Asked, both-keys-reads.Learnt, clauses-reads.Asked, clauses-reads.Learnt, next-clause-reads.Asked, next-clause-reads.Learnt, slot-for-reads.Asked, slot-for-reads.Learnt, plus-reads.Asked, plus-reads.Learnt, recall-reads.Asked, recall-reads.Learnt, decide-below t, decide.Post) (prove-atom-at t) prove-atom.Post
 prove-atom-returns-2 t c = atoms.atom-recalled (c .before .before .before .before .before .slot-for .result) (c .before .before .recall .result) false (c .before .before .before .plus .ensures) (c .before .before .before .before .before .slot-for .ensures .1) (c .before .before .recall .ensures) (λ b x. subst (Says b) (c .enum-told .given .1) x)
 
 -- src/provable.rt:202:1
-prove-atom-same-length-3 : (t : ℕ) → prove-atom-lts.Need-same-length-3 (predicate-key-reads.Asked, predicate-key-reads.Learnt, atom-key-reads.Asked, atom-key-reads.Learnt, clauses-reads.Asked, clauses-reads.Learnt, next-clause-reads.Asked, next-clause-reads.Learnt, slot-for-reads.Asked, slot-for-reads.Learnt, plus-reads.Asked, plus-reads.Learnt, recall-reads.Asked, recall-reads.Learnt, decide-below t, decide.Post) (prove-atom-at t) prove-atom.Post
+prove-atom-same-length-3 : (t : ℕ) → prove-atom-lts.Need-same-length-3 (both-keys-reads.Asked, both-keys-reads.Learnt, clauses-reads.Asked, clauses-reads.Learnt, next-clause-reads.Asked, next-clause-reads.Learnt, slot-for-reads.Asked, slot-for-reads.Learnt, plus-reads.Asked, plus-reads.Learnt, recall-reads.Asked, recall-reads.Learnt, decide-below t, decide.Post) (prove-atom-at t) prove-atom.Post
 prove-atom-same-length-3 t c = search needs
 
 -- src/provable.rt:202:1
-prove-atom-returns-3 : (t : ℕ) → prove-atom-lts.Need-returns-3 (predicate-key-reads.Asked, predicate-key-reads.Learnt, atom-key-reads.Asked, atom-key-reads.Learnt, clauses-reads.Asked, clauses-reads.Learnt, next-clause-reads.Asked, next-clause-reads.Learnt, slot-for-reads.Asked, slot-for-reads.Learnt, plus-reads.Asked, plus-reads.Learnt, recall-reads.Asked, recall-reads.Learnt, decide-below t, decide.Post) (prove-atom-at t) prove-atom.Post
+prove-atom-returns-3 : (t : ℕ) → prove-atom-lts.Need-returns-3 (both-keys-reads.Asked, both-keys-reads.Learnt, clauses-reads.Asked, clauses-reads.Learnt, next-clause-reads.Asked, next-clause-reads.Learnt, slot-for-reads.Asked, slot-for-reads.Learnt, plus-reads.Asked, plus-reads.Learnt, recall-reads.Asked, recall-reads.Learnt, decide-below t, decide.Post) (prove-atom-at t) prove-atom.Post
 prove-atom-returns-3 t c = atoms.atom-recalled (c .before .before .before .before .before .slot-for .result) (c .before .before .recall .result) true (c .before .before .before .plus .ensures) (c .before .before .before .before .before .slot-for .ensures .1) (c .before .before .recall .ensures) (λ b x. subst (Says b) (c .enum-told2 .given .1) x)
 
 -- src/provable.rt:202:1
-prove-atom-same-length-4 : (t : ℕ) → prove-atom-lts.Need-same-length-4 (predicate-key-reads.Asked, predicate-key-reads.Learnt, atom-key-reads.Asked, atom-key-reads.Learnt, clauses-reads.Asked, clauses-reads.Learnt, next-clause-reads.Asked, next-clause-reads.Learnt, slot-for-reads.Asked, slot-for-reads.Learnt, plus-reads.Asked, plus-reads.Learnt, recall-reads.Asked, recall-reads.Learnt, decide-below t, decide.Post) (prove-atom-at t) prove-atom.Post
+prove-atom-same-length-4 : (t : ℕ) → prove-atom-lts.Need-same-length-4 (both-keys-reads.Asked, both-keys-reads.Learnt, clauses-reads.Asked, clauses-reads.Learnt, next-clause-reads.Asked, next-clause-reads.Learnt, slot-for-reads.Asked, slot-for-reads.Learnt, plus-reads.Asked, plus-reads.Learnt, recall-reads.Asked, recall-reads.Learnt, decide-below t, decide.Post) (prove-atom-at t) prove-atom.Post
 prove-atom-same-length-4 t c = c .before .before .decide .kept .1 .1 .1 .0
 
 -- src/provable.rt:202:1
-prove-atom-returns-4 : (t : ℕ) → prove-atom-lts.Need-returns-4 (predicate-key-reads.Asked, predicate-key-reads.Learnt, atom-key-reads.Asked, atom-key-reads.Learnt, clauses-reads.Asked, clauses-reads.Learnt, next-clause-reads.Asked, next-clause-reads.Learnt, slot-for-reads.Asked, slot-for-reads.Learnt, plus-reads.Asked, plus-reads.Learnt, recall-reads.Asked, recall-reads.Learnt, decide-below t, decide.Post) (prove-atom-at t) prove-atom.Post
-prove-atom-returns-4 t c = atoms.atom-decided (c .before .before .before .before .before .before .before .before .before .slot-for .result) (c .before .before .before .before .before .before .before .before .before .before .before .before .before .before .before .before .before .before .predicate-key .ensures) (c .before .before .before .before .before .before .before .before .before .before .before .before .before .before .before .before .atom-key .ensures) (c .before .before .before .before .before .before .before .before .before .slot-for .ensures .1) (c .before .before .decide .ensures)
+prove-atom-returns-4 : (t : ℕ) → prove-atom-lts.Need-returns-4 (both-keys-reads.Asked, both-keys-reads.Learnt, clauses-reads.Asked, clauses-reads.Learnt, next-clause-reads.Asked, next-clause-reads.Learnt, slot-for-reads.Asked, slot-for-reads.Learnt, plus-reads.Asked, plus-reads.Learnt, recall-reads.Asked, recall-reads.Learnt, decide-below t, decide.Post) (prove-atom-at t) prove-atom.Post
+prove-atom-returns-4 t c = atoms.atom-decided (c .before .before .before .before .before .before .before .before .before .slot-for .result) (c .before .before .before .before .before .before .before .before .before .before .before .before .before .before .before .before .before .both-keys .ensures .0) (c .before .before .before .before .before .before .before .before .before .before .before .before .before .before .before .before .before .both-keys .ensures .1) (c .before .before .before .before .before .before .before .before .before .slot-for .ensures .1) (c .before .before .decide .ensures)
 
 -- src/provable.rt:65:9
 prove-goal-returns : (t : ℕ) → prove-goal-lts.Need-returns (word-there-reads.Asked, word-there-reads.Learnt, prove-atom-below t, prove-atom.Post, both-below t, both.Post, prove-or-below t, prove-or.Post, prove-some-below t, prove-some.Post, prove-all-below t, prove-all.Post, under-below t, under.Post) (prove-goal-at t) prove-goal.Post
@@ -1883,10 +1878,8 @@ pub +ask+body+both+decide+each+fill+find-clause+fork+look+look-and+prove-all+pro
     (prove-all-same-length t)
     (prove-all-returns-2 t))
     (λ t. prove-atom-lts.spec (
-      predicate-key-reads.Asked,
-      predicate-key-reads.Learnt,
-      atom-key-reads.Asked,
-      atom-key-reads.Learnt,
+      both-keys-reads.Asked,
+      both-keys-reads.Learnt,
       clauses-reads.Asked,
       clauses-reads.Learnt,
       next-clause-reads.Asked,
@@ -1902,8 +1895,7 @@ pub +ask+body+both+decide+each+fill+find-clause+fork+look+look-and+prove-all+pro
     )
     (prove-atom-at t)
     prove-atom.Post
-    (prove-atom-predicate-key-requires t)
-    (prove-atom-atom-key-requires t)
+    (prove-atom-both-keys-requires t)
     (prove-atom-clauses-requires t)
     (prove-atom-next-clause-requires t)
     (prove-atom-same-length t)
