@@ -36,11 +36,11 @@ stored_halves() {
 "$second" carrier-cases | "$second" carrier-counts
 { "$second" packet-cases 1; "$second" packet-cases 2; } | "$second" packet-counts
 { "$second" judge-cases 1; "$second" judge-cases 2; } | "$second" judge-counts
-for part in 1 2 3 4; do "$second" search-cases "$part"; done | "$second" search-counts
+for part in 1 2 3 4 5; do "$second" search-cases "$part"; done | "$second" search-counts
 for part in 1 2 3 4; do "$second" tptp-cases "$part"; done | "$second" tptp-counts
 
 stored carrier_cases carrier
 stored_parts packet_cases packet 1 2
 stored_halves judge_cases judge
-stored_parts search_cases search 1 2 3 4
+stored_parts search_cases search 1 2 3 4 5 5 5 # the last part in rooms of three lengths: the same answers
 stored_parts tptp_cases tptp 1 2 3 4

@@ -1,5 +1,6 @@
-// Searches for every case of four files of search cases (second/README.md: rules, goal, terms, height and size, each a string) and prints one line for each. What is found is
-// judged as well; a line says more than is expected if it is not accepted, with the same height and nodes. The cases and the lines that are expected come from the second program alone.
+// Searches for every case of five files of search cases (second/README.md: rules, goal, terms, height and size, each a string) and prints one line for each; for those of the last
+// file, whose names the search's numbers do not tell apart (docs/LANDINGS.md, Three), in rooms of three lengths. What is found is judged as well; a line says more than is expected if
+// it is not accepted, with the same height and nodes, or if the room is not zero afterwards. The cases and the lines that are expected come from the second program alone.
 use judge::Verdict;
 use programs::load;
 use programs::number;
@@ -49,16 +50,28 @@ fn found<'a>(
     }
 }
 
-// Searches with a buffer, and prints the answer.
+// Whether all words of a room are zero, as a search leaves them.
+fn zero(room: &[u32]) -> bool {
+    let mut i = 0;
+    while i < room.len() {
+        if room[i] != 0 {
+            return false;
+        }
+        i += 1;
+    }
+    true
+}
+
+// Searches with a buffer in a room, and prints the answer, and more if the room is not zero afterwards.
 fn searched<'a>(
     rules: &'a [u8],
     goal: &'a [u8],
     terms: &'a [u8],
     height: usize,
     strip: &'a mut [u8],
+    room: &mut [u32],
 ) {
-    let mut room = [0u32; 8192];
-    match propose::propose(rules, goal, terms, height, strip, &mut room) {
+    match propose::propose(rules, goal, terms, height, strip, room) {
         Proposal::Found {
             height,
             nodes,
@@ -69,6 +82,9 @@ fn searched<'a>(
             file,
             place,
         } => say_refused(reason, file, place),
+    }
+    if !zero(room) {
+        say(b" and leaves a room that is not zero");
     }
     say(b"\n");
 }
@@ -81,7 +97,14 @@ fn blank() -> [u8; 20000]
 }
 
 // The same where height and size are given as words.
-fn asked<'a>(rules: &'a [u8], goal: &'a [u8], terms: &'a [u8], height: Value, size: Value) {
+fn asked<'a>(
+    rules: &'a [u8],
+    goal: &'a [u8],
+    terms: &'a [u8],
+    height: Value,
+    size: Value,
+    room: &mut [u32],
+) {
     match height {
         Value::Nothing => say(b"no height\n"),
         Value::Is(high) => match size {
@@ -92,14 +115,14 @@ fn asked<'a>(rules: &'a [u8], goal: &'a [u8], terms: &'a [u8], height: Value, si
                     return;
                 }
                 let mut strip = blank();
-                searched(rules, goal, terms, high, &mut strip[..n]);
+                searched(rules, goal, terms, high, &mut strip[..n], room);
             }
         },
     }
 }
 
 // Searches for the case at an offset, and answers where the next one starts.
-fn case(s: &[u8], at: usize) -> usize
+fn case(s: &[u8], at: usize, room: &mut [u32]) -> usize
     requires { ⌜ at < length (now s) ⌝ }
     ensures { λ r. ⌜ at ≤ r ⌝ }
 {
@@ -124,14 +147,16 @@ fn case(s: &[u8], at: usize) -> usize
         &s[f..g],
         number(&s[h..i]),
         number(&s[j..k]),
+        room,
     );
     k
 }
 
-fn cases(s: &[u8]) {
+// Searches for all cases of a file in one room.
+fn cases(s: &[u8], room: &mut [u32]) {
     let mut at = 0;
     while at < s.len() {
-        let next = case(s, at);
+        let next = case(s, at, room);
         if next <= at {
             return;
         }
@@ -139,14 +164,35 @@ fn cases(s: &[u8]) {
     }
 }
 
+// Searches for all cases of a file that is named.
+fn part(name: &[u8], buf: &mut [u8], room: &mut [u32]) {
+    let n = load(name, buf);
+    cases(&buf[..n], room);
+}
+
+// The same in the least room, in one of a word more, and in a long one.
+fn in_least(name: &[u8], buf: &mut [u8]) {
+    let mut room = [0u32; 8192];
+    part(name, buf, &mut room);
+}
+
+fn in_one_more(name: &[u8], buf: &mut [u8]) {
+    let mut room = [0u32; 8193];
+    part(name, buf, &mut room);
+}
+
+fn in_long(name: &[u8], buf: &mut [u8]) {
+    let mut room = [0u32; 100000];
+    part(name, buf, &mut room);
+}
+
 fn main() {
     let mut buf = [0u8; 393216];
-    let k = load(b"cases1", &mut buf);
-    cases(&buf[..k]);
-    let l = load(b"cases2", &mut buf);
-    cases(&buf[..l]);
-    let m = load(b"cases3", &mut buf);
-    cases(&buf[..m]);
-    let n = load(b"cases4", &mut buf);
-    cases(&buf[..n]);
+    in_least(b"cases1", &mut buf);
+    in_least(b"cases2", &mut buf);
+    in_least(b"cases3", &mut buf);
+    in_least(b"cases4", &mut buf);
+    in_least(b"cases5", &mut buf);
+    in_one_more(b"cases5", &mut buf);
+    in_long(b"cases5", &mut buf);
 }

@@ -4,7 +4,7 @@ use crate::batch::put;
 use crate::chance::Chance;
 use crate::make::formulas::{self, Scope};
 use crate::make::judging::spelled;
-use crate::make::{damage, proofs, wanted};
+use crate::make::{alike, damage, proofs, wanted};
 use crate::verdict::{search, Files, ROOM};
 
 /// No case by chance takes more looks than this, so that a plain search answers all of them soon.
@@ -14,16 +14,21 @@ const LOOKS: u64 = 2_000;
 pub type Three = [Vec<u8>; 3];
 
 /// The number of case files.
-pub const PARTS: usize = 4;
+pub const PARTS: usize = 5;
+
+/// The parts that hold document 01's cases and those by chance.
+const FIRST: usize = 3;
 
 /// A case: the three files, the height and the buffer's size.
 type Case = Vec<u8>;
 
-/// One of the case files, from 1 on: the cases in order, cut so that each file has about as many bytes; in the last one
-/// those of document 02, Three.
+/// One of the case files, from 1 on: the cases in order, cut so that each file has about as many bytes; in the last two
+/// those of document 02, Three: heads and suppositions, and names that are alike.
 pub fn cases(part: usize) -> Vec<u8> {
-    if part == PARTS {
-        return named(wanted::matched()).concat();
+    match part {
+        4 => return named(wanted::matched()).concat(),
+        5 => return named(alike::searches()).concat(),
+        _ => {}
     }
     let mut all = named(wanted::searches());
     by_chance(&mut all);
@@ -31,7 +36,7 @@ pub fn cases(part: usize) -> Vec<u8> {
     let mut before = 0;
     let mut out = Vec::new();
     for case in all {
-        if before * (PARTS - 1) / whole + 1 == part {
+        if before * FIRST / whole + 1 == part {
             out.extend_from_slice(&case);
         }
         before += case.len();

@@ -57,6 +57,9 @@ returns-2 c = search needs
 returns-3 : tie.Need-returns-3
 returns-3 c = search needs
 
+same-length : tie.Need-same-length
+same-length c = search needs
+
 returns-4 : tie.Need-returns-4
 returns-4 c = search needs
 
@@ -81,4 +84,5 @@ asked-spec =
     searched-requires
     returns-2
     returns-3
+    same-length
     returns-4)

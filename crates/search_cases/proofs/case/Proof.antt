@@ -75,20 +75,23 @@ number-requires-2 c κs = search needs
 asked-requires : tie.Need-asked-requires
 asked-requires c κs = search needs
 
+same-length : tie.Need-same-length
+same-length c = search needs
+
 returns : tie.Need-returns
 returns c =
-    let n = length (c .before .before .before .before .before .before .before .before .before .before .before .before .before .before .args .s .now) in
-    let first = c .before .before .before .before .before .before .before .before .before .before .before .before .before .before .args .at in
-    let h = c .before .before .before .before .before .before .before .before .before .before .before .before .before .before .pre in
-    let k0 = c .before .before .before .before .before .before .before .before .before .before .before .before .string in
+    let n = length (c .before .before .before .before .before .before .before .before .before .before .before .before .before .before .before .before .before .before .args .s .now) in
+    let first = c .before .before .before .before .before .before .before .before .before .before .before .before .before .before .before .before .before .before .args .at in
+    let h = c .before .before .before .before .before .before .before .before .before .before .before .before .before .before .before .before .before .before .pre in
+    let k0 = c .before .before .before .before .before .before .before .before .before .before .before .before .before .before .before .string in
     let a0 = string-after first first n (k0 .result .from) (k0 .result .to) (omega arith, omega arith) (k0 .ensures .1) in
-    let k1 = c .before .before .before .before .before .before .before .before .before .before .before .string2 in
+    let k1 = c .before .before .before .before .before .before .before .before .before .before .before .before .before .before .string2 in
     let a1 = string-after first (k0 .result .to) n (k1 .result .from) (k1 .result .to) a0 (k1 .ensures .1) in
-    let k2 = c .before .before .before .before .before .before .before .before .before .before .string3 in
+    let k2 = c .before .before .before .before .before .before .before .before .before .before .before .before .before .string3 in
     let a2 = string-after first (k1 .result .to) n (k2 .result .from) (k2 .result .to) a1 (k2 .ensures .1) in
-    let k3 = c .before .before .before .before .before .before .before .before .before .string4 in
+    let k3 = c .before .before .before .before .before .before .before .before .before .before .before .before .string4 in
     let a3 = string-after first (k2 .result .to) n (k3 .result .from) (k3 .result .to) a2 (k3 .ensures .1) in
-    let k4 = c .before .before .before .before .before .before .before .before .string5 in
+    let k4 = c .before .before .before .before .before .before .before .before .before .before .before .string5 in
     let a4 = string-after first (k3 .result .to) n (k4 .result .from) (k4 .result .to) a3 (k4 .ensures .1) in
     a4 .0
 
@@ -119,4 +122,5 @@ case-spec =
     part-number-end-2
     number-requires-2
     asked-requires
+    same-length
     returns)

@@ -7,9 +7,6 @@ use borrow.Author.Needs.{needs}
 use Rattle.search_cases.proofs.searched.Statement.{statement}
 use Rattle.search_cases.proofs.searched.Tie as tie
 
-slice-aggregate-propose : tie.Need-slice-aggregate-propose
-slice-aggregate-propose c = search needs
-
 propose-requires : tie.Need-propose-requires
 propose-requires c κs = search needs
 
@@ -17,10 +14,10 @@ enum-known-height : tie.Need-enum-known-height
 enum-known-height c = search needs
 
 slice-reshare-prefix-found : tie.Need-slice-reshare-prefix-found
-slice-reshare-prefix-found c = let k = c .before .before .before .before .before .before .propose in let l = found-inside (k .ensures) (c .before .height .given .1) in let e = k .kept .1 .1 .1 .1 .0 in omega arith
+slice-reshare-prefix-found c = let k = c .before .before .before .before .before .before .before .propose in let l = found-inside (k .ensures) (c .before .height .given .1) in let e = k .kept .1 .1 .1 .1 .0 in omega arith
 
 slice-aggregate-found : tie.Need-slice-aggregate-found
-slice-aggregate-found c = let k = c .before .before .before .before .before .before .before .propose in let l = found-inside (k .ensures) (c .before .before .height .given .1) in let e = k .kept .1 .1 .1 .1 .0 in sym (length-take-le (c .before .before .height .given .0 .1 .1 .0) (k .last .1 .1 .1 .1 .0) (omega arith))
+slice-aggregate-found c = let k = c .before .before .before .before .before .before .before .before .propose in let l = found-inside (k .ensures) (c .before .before .height .given .1) in let e = k .kept .1 .1 .1 .1 .0 in sym (length-take-le (c .before .before .height .given .0 .1 .1 .0) (k .last .1 .1 .1 .1 .0) (omega arith))
 
 found-requires : tie.Need-found-requires
 found-requires c κs = search needs
@@ -31,14 +28,26 @@ enum-known-reason c = search needs
 say-refused-requires : tie.Need-say-refused-requires
 say-refused-requires c κs = search needs
 
+zero-requires : tie.Need-zero-requires
+zero-requires c κs = search needs
+
 slice-aggregate-say : tie.Need-slice-aggregate-say
 slice-aggregate-say c = search needs
 
 say-requires : tie.Need-say-requires
 say-requires c κs = search needs
 
+slice-aggregate-say-2 : tie.Need-slice-aggregate-say-2
+slice-aggregate-say-2 c = search needs
+
+say-requires-2 : tie.Need-say-requires-2
+say-requires-2 c κs = search needs
+
 same-length : tie.Need-same-length
 same-length c = search needs
+
+same-length-2 : tie.Need-same-length-2
+same-length-2 c = search needs
 
 returns : tie.Need-returns
 returns c = search needs
@@ -47,7 +56,6 @@ pub searched-spec : {M : Type 1} → statement M
 searched-spec =
     tie.close
     (tie.spec
-    slice-aggregate-propose
     propose-requires
     enum-known-height
     slice-reshare-prefix-found
@@ -55,7 +63,11 @@ searched-spec =
     found-requires
     enum-known-reason
     say-refused-requires
+    zero-requires
     slice-aggregate-say
     say-requires
+    slice-aggregate-say-2
+    say-requires-2
     same-length
+    same-length-2
     returns)
