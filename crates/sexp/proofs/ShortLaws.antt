@@ -8,7 +8,7 @@ use native.Mathlib.Omega.{arith}
 use lib.ListN.{length, getD, take, drop, length-drop, length-append, take-append-drop}
 use lib.Seq.{take-append-seam}
 use Rattle.basics.specs.Tells.{Tells, tells-as}
-use Rattle.sexp.specs.declared.text.Reading.the-variants.{Spans}
+use Rattle.sexp.specs.declared.text.Reading.the-variants.{Spans, Stuck}
 use Rattle.sexp.specs.Decimal.{isDigit}
 use Rattle.sexp.specs.Sexp.{str, Stands}
 use Rattle.sexp.specs.Text.{VerbatimAt}
@@ -17,7 +17,7 @@ use Rattle.sexp.specs.WordsAt.{Numeral}
 use Rattle.sexp.proofs.DecimalLaws.{onto-small}
 use Rattle.sexp.proofs.NumberLaws.{drop-here, digits-start, over-digit}
 use Rattle.sexp.proofs.StandLaws.{byte-at, after-byte}
-use Rattle.sexp.proofs.TextLaws.{spans}
+use Rattle.sexp.proofs.TextLaws.{spans, stuck-octets}
 
 -- the bytes of the string w, where its length is one digit
 pub record Short (s : List ℕ) (at : ℕ) (w : List ℕ) : Type 0 where
@@ -70,6 +70,14 @@ module _ (s : List ℕ) (at : ℕ) where
       let r = over-digit s at v (at + 1) (digits-start s at (omega arith) d) (ap isDigit c) in
       subst (λ (x : ℕ). VerbatimAt s at (Spans x (x + v))) {x = at + 1 + 1} {y = at + 2} (omega arith)
       (spans s at v (at + 1) r h c (omega arith) b)
+
+  -- and one that is too long for the bytes
+  pub short-stuck : at + 1 < length s → isDigit (getD s at 0) ≡ true → getD s (at + 1) 0 ≡ 58 → (getD s at 0 - 48 < length s - at - 1 → ⊥) → length s < 9223372036854775808 → VerbatimAt s at (Stuck (length s))
+  unfolding isDigit
+  short-stuck h d c l b =
+      let v = getD s at 0 - 48 in
+      let r = over-digit s at v (at + 1) (digits-start s at (omega arith) d) (ap isDigit c) in
+      stuck-octets s at v (at + 1) r h c (λ k. l (omega arith)) b
 
   -- a number of one digit, read at once
   pub short-number : at + 2 < length s → getD s at 0 ≡ 49 → getD s (at + 1) 0 ≡ 58 → isDigit (getD s (at + 2) 0) ≡ true → Numeral s at (getD s (at + 2) 0 - 48)

@@ -2,24 +2,30 @@
 -- From document 01, "comparing and skipping nested terms in bytes, remaining nesting falls".
 use Prim.Native.Nat.{ℕ, _+_, _-_, _<_, _≤_}
 use mathlib.Core.Path.{_≡_, refl, sym, _∙_, ap, ap₂, subst}
-use mathlib.Core.Bool.{true}
+use mathlib.Core.Bool.{Bool, true, false}
 use mathlib.Core.List.{List}
 use mathlib.Core.Option.{Option, none, some}
 use native.Mathlib.Omega.{arith}
+use lib.Dec.{leb}
 use lib.ListN.{length, getD, take, drop, length-drop}
 use lib.Seq.{take-append-seam}
+use borrow.Author.Tests.{leb-true, leb-false}
 use Rattle.sexp.specs.declared.skip.After.{After}
 use Rattle.sexp.specs.declared.skip.After.the-variants.{Next, Nothing}
 use Rattle.sexp.specs.declared.text.Reading.{Reading}
 use Rattle.sexp.specs.declared.text.Reading.the-variants.{Spans, Stuck}
+use Rattle.sexp.specs.Decimal.{isDigit}
 use Rattle.sexp.specs.Sexp.{Sexp, Sexps, str, hinted, list, nil, cons, spellOnto, spell, spells, nesting, nestings, Stands, StandsAll}
 use Rattle.sexp.specs.Known.{Known, textOf}
 use Rattle.sexp.specs.Text.{VerbatimAt, TextAt}
 use Rattle.sexp.specs.Strings.{Plain}
-use Rattle.sexp.specs.Past.{Ends, PastAt}
+use Rattle.sexp.specs.Past.{Ends, PastAt, StringEnd}
+use Rattle.sexp.proofs.DecimalLaws.{digit-high}
 use Rattle.sexp.proofs.SpellLaws.{spell-length}
 use Rattle.sexp.proofs.OntoLaws.{spell-some}
-use Rattle.sexp.proofs.StandLaws.{byte-inside, none-closes, stands-inside, stands-once, members-stand, first-stands, others-stand, list-stands, none-stand, more-stand, opens-list, opens-not, list-length, cons-length}
+use Rattle.sexp.proofs.StandLaws.{none-closes, stands-inside, all-before, stands-once, members-stand, first-stands, others-stand, list-stands, none-stand, more-stand, opens-list, opens-not, list-length, cons-length}
+use Rattle.sexp.proofs.ShortLaws.{short-spans, short-stuck}
+use Rattle.sexp.proofs.TextLaws.{text-unhinted}
 
 -- a plain string that is read, and one that is not
 pub plain-spans : (s : List ℕ) (at from to : ℕ) (r : Reading) → r ≡ Spans from to → VerbatimAt s at r → Plain s at from (to - from)
@@ -89,13 +95,11 @@ pub record Members (s : List ℕ) (at nest n : ℕ) : Type 0 where
 
 -- of the list that opens at an offset, members are passed up to i: any that stand there make a whole, and any whole leaves some to stand there
 pub record Going (s : List ℕ) (at nest i : ℕ) : Type 0 where
-  pub inside : i ≤ length s
   pub whole : (ys : Sexps) → StandsAll s i ys → nestings ys ≤ nest → Members s (at + 1) nest (i + length (spells ys))
   pub left : (xs : Sexps) → StandsAll s (at + 1) xs → nestings xs ≤ nest → (ys : Sexps) × StandsAll s i ys × (nestings ys ≤ nest)
 
-pub going-start : (s : List ℕ) (at nest : ℕ) → getD s at 0 ≡ 40 → Going s at nest (at + 1)
-going-start s at nest b = record {
-  inside = omega (arith, byte-inside s at 40 b (omega arith));
+pub going-start : (s : List ℕ) (at nest : ℕ) → Going s at nest (at + 1)
+going-start s at nest = record {
   whole = λ ys h d. record { members = ys; stand = h; shallow = d; ends = refl };
   left = λ xs h d. (xs, h, d);
 }
@@ -104,7 +108,6 @@ module _ (s : List ℕ) (at nest i : ℕ) (g : Going s at nest i) where
   -- a member is passed
   pub going-on : (n : ℕ) → (getD s i 0 ≡ 41 → ⊥) → Ends s i nest n → Going s at nest n
   going-on n b h = record {
-    inside = omega (arith, h .ends, stands-inside (h .stands));
     whole = λ ys k d. more ys (subst (λ (j : ℕ). StandsAll s j ys) (h .ends) k) d;
     left = λ xs k d. rest (g .left xs k d);
   }
@@ -123,13 +126,38 @@ module _ (s : List ℕ) (at nest i : ℕ) (g : Going s at nest i) where
           let e = ap (λ (z : Sexp). i + length (spell z)) (stands-once (first-stands k) (h .stands)) ∙ sym (h .ends) in
           (zs, subst (λ (j : ℕ). StandsAll s j zs) e (others-stand k), omega (arith, d))
 
-  pub going-further : (n : ℕ) → Ends s i nest n → i < n
-  going-further n h = omega (arith, h .ends, spell-some (h .expression))
+  -- a string is passed, or none stands there, and then no list is whole
+  pub going-string : (n : ℕ) → (getD s i 0 ≡ 41 → ⊥) → (getD s i 0 ≡ 40 → ⊥) → StringEnd s i n → Going s at nest n
+  going-string n b c h = go (leb n (length s)) refl
+    where
+      none : length s < n → (ys : Sexps) × StandsAll s i ys × (nestings ys ≤ nest) → ⊥
+      none l (nil, k, d) = b (none-closes k)
+      none l (cons y ys, k, d) = h .none l y (first-stands k) (omega (arith, opens-not (first-stands k) c))
+
+      go : (t : Bool) → leb n (length s) ≡ t → Going s at nest n
+      go true e = going-on n b (past-flat s i nest (Next n) c (h .ends (leb-true n (length s) e)))
+      go false e =
+          let l = leb-false n (length s) e in
+          record {
+            whole = λ ys k d. absurd (omega (arith, l, all-before k));
+            left = λ xs k d. absurd (none l (g .left xs k d));
+          }
+
+-- what is passed ends further on
+pub ends-further : (s : List ℕ) (at nest n : ℕ) → Ends s at nest n → at < n
+ends-further s at nest n h = omega (arith, h .ends, spell-some (h .expression))
+
+pub string-further : (s : List ℕ) (at n : ℕ) → at < length s → StringEnd s at n → at < n
+string-further s at n z h = go (leb n (length s)) refl
+  where
+    go : (t : Bool) → leb n (length s) ≡ t → at < n
+    go true e = ends-further s at 0 n (h .ends (leb-true n (length s) e))
+    go false e = omega (arith, leb-false n (length s) e, z)
 
 module _ (s : List ℕ) (at nest i : ℕ) (b : getD s at 0 ≡ 40) (z : nest ≡ 0 → ⊥) (g : Going s at (nest - 1) i) where
   -- the closing parenthesis ends the list
-  pub past-list : getD s i 0 ≡ 41 → Ends s at nest (i + 1)
-  past-list c =
+  pub past-whole : getD s i 0 ≡ 41 → Ends s at nest (i + 1)
+  past-whole c =
       let m = g .whole nil (none-stand c) (omega arith) in
       record {
         expression = list (m .members);
@@ -138,7 +166,14 @@ module _ (s : List ℕ) (at nest i : ℕ) (b : getD s at 0 ≡ 40) (z : nest ≡
         ends = omega (arith, m .ends, list-length (m .members));
       }
 
-  -- where none closes and no member stands, there is no list
+  -- where the bytes end there is no list
+  pub past-cut : length s ≤ i → (e : Sexp) → Stands s at e → nesting e ≤ nest → ⊥
+  past-cut c e h d =
+      let (xs, q) = opens-list h b in
+      let (ys, k, m) = g .left xs (members-stand (subst (Stands s at) q h)) (omega (arith, d, ap nesting q)) in
+      omega (arith, c, all-before k)
+
+  -- nor where none closes and no member stands
   pub past-stop : (getD s i 0 ≡ 41 → ⊥) → ((e : Sexp) → Stands s i e → nesting e ≤ nest - 1 → ⊥) → (e : Sexp) → Stands s at e → nesting e ≤ nest → ⊥
   past-stop c f e h d =
       let (xs, q) = opens-list h b in
@@ -147,3 +182,23 @@ module _ (s : List ℕ) (at nest i : ℕ) (b : getD s at 0 ≡ 40) (z : nest ≡
       stop : (ys : Sexps) × StandsAll s i ys × (nestings ys ≤ nest - 1) → ⊥
       stop (nil, k, d) = c (none-closes k)
       stop (cons y ys, k, d) = f y (first-stands k) (omega (arith, d))
+
+-- the end of a string whose length is one digit, and of any other
+module _ (s : List ℕ) (at : ℕ) (b : length s < 9223372036854775808) where
+  pub string-short : at + 1 < length s → isDigit (getD s at 0) ≡ true → getD s (at + 1) 0 ≡ 58 → StringEnd s at (at + 2 + (getD s at 0 - 48))
+  string-short h d c = record {
+    ends = λ l. past-spans s at (at + 2) (at + 2 + v) (Spans (at + 2) (at + 2 + v)) refl (text-unhinted true s at (Spans (at + 2) (at + 2 + v)) (omega arith) bracket (short-spans s at h d c (omega (arith, l)) b));
+    none = λ l. past-stuck s at (length s) (Stuck (length s)) refl (text-unhinted true s at (Stuck (length s)) (omega arith) bracket (short-stuck s at h d c (omega (arith, l)) b));
+  }
+    where
+      v : ℕ
+      v = getD s at 0 - 48
+
+      bracket : getD s at 0 ≡ 91 → ⊥
+      bracket e = omega (arith, e, digit-high (getD s at 0) d)
+
+  pub string-next : (n : ℕ) → Ends s at 0 n → StringEnd s at n
+  string-next n h = record { ends = λ l. h; none = λ l. absurd (omega (arith, l, h .ends, stands-inside (h .stands))) }
+
+  pub string-none : PastAt s at 0 Nothing → StringEnd s at 18446744073709551615
+  string-none h = record { ends = λ l. absurd (omega (arith, l, b)); none = λ l. h }

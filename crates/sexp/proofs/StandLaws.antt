@@ -46,6 +46,9 @@ module _ {s : List ℕ} {at : ℕ} where
   pub stands-before : {e : Sexp} → Stands s at e → at < length s
   stands-before {e} h = omega (arith, stands-inside h, spell-some e)
 
+  pub all-before : {xs : Sexps} → StandsAll s at xs → at < length s
+  all-before {xs} h = omega (arith, length-drop at s, ap length (h .spelt), spells-length xs (41 ∷ h .rest))
+
   -- what follows it
   pub stands-past : {e : Sexp} (h : Stands s at e) → drop (at + length (spell e)) s ≡ h .rest
   stands-past {e} h = sym (drop-drop (length (spell e)) at s) ∙ ap (drop (length (spell e))) (h .spelt) ∙ spell-past e (h .rest)

@@ -1,10 +1,13 @@
 // Past an expression at an offset of any bytes (document 01, "comparing and skipping nested terms in bytes, remaining nesting falls").
 // Strings are jumped over by their length.
-use crate::strings::closes;
+use crate::decimal::digit;
 use crate::strings::opens;
 use crate::text::Reading;
 use crate::text::text;
-ghost use Rattle.sexp.specs.Past.{PastAt};
+ghost use Prim.Native.Nat.{_<_};
+ghost use mathlib.Core.Path.{_≡_};
+ghost use lib.ListN.{length, getD};
+ghost use Rattle.sexp.specs.Past.{PastAt, StringEnd};
 
 // The offset just after what was looked for.
 pub enum After {
@@ -25,19 +28,49 @@ fn past_string(s: &[u8], at: usize) -> After
     }
 }
 
-// Past the expression at an offset that nests at most `nest`. What is left of the nesting falls at each list.
+// The end of the string at an offset, or an offset past the end of the bytes where none stands. Nearly every length has one digit, and is then read at once.
+fn string_end(s: &[u8], at: usize) -> usize
+    requires { ⌜ at < length (now s) ⌝ }
+    ensures { λ r. ⌜ StringEnd (now (s .entry)) at r ⌝ }
+{
+    if 1 < s.len() - at && s[at + 1] == 58 && digit(s[at]) {
+        return at + 2 + (s[at] - 48) as usize;
+    }
+    match past_string(s, at) {
+        After::Nothing => 0xffff_ffff_ffff_ffff,
+        After::Next(n) => n,
+    }
+}
+
+// Past the expression at an offset that nests at most `nest`.
 pub fn past(s: &[u8], at: usize, nest: usize) -> After
     ensures { λ r. ⌜ PastAt (now (s .entry)) at nest r ⌝ }
 {
-    if !opens(s, at) {
-        return past_string(s, at);
+    if opens(s, at) {
+        return past_list(s, at, nest);
     }
+    past_string(s, at)
+}
+
+// The same where a list opens. Its strings are passed one after the other; what is left of the nesting falls at each list in it.
+fn past_list(s: &[u8], at: usize, nest: usize) -> After
+    requires { ⌜ getD (now s) at 0 ≡ 40 ⌝ }
+    ensures { λ r. ⌜ PastAt (now (s .entry)) at nest r ⌝ }
+{
     if nest == 0 {
         return After::Nothing;
     }
     let mut i = at + 1;
-    while !closes(s, i) {
-        match past(s, i, nest - 1) {
+    while i < s.len() {
+        let b = s[i];
+        if b == 41 {
+            return After::Next(i + 1);
+        }
+        if b != 40 {
+            i = string_end(s, i);
+            continue;
+        }
+        match past_list(s, i, nest - 1) {
             After::Nothing => {
                 return After::Nothing;
             }
@@ -46,5 +79,5 @@ pub fn past(s: &[u8], at: usize, nest: usize) -> After
             }
         }
     }
-    After::Next(i + 1)
+    After::Nothing
 }
