@@ -8,25 +8,20 @@ use lib.Dec.{eqb}
 use lib.ListN.{length, getD}
 use borrow.Author.Tests.{eqb-true, eqb-false, ltb-true, lt-ltb, le-ltb}
 use Rattle.basics.specs.Choice.{choose, both-true}
-use Rattle.basics.specs.Tells.{Tells, tells-once, tells-as, told-yes}
+use Rattle.basics.specs.Tells.{Tells, tells-once, tells-as}
 use Rattle.basics.specs.Text.{octets}
 use Rattle.harrop.specs.declared.Binding.{Binding}
 use Rattle.harrop.specs.Formula.{Term, Terms, Atom, Goal, Clause}
 use Rattle.harrop.specs.Bindings.{Bindings, sameName}
 use Rattle.harrop.specs.Place.{Plain}
 use Rattle.harrop.proofs.SameLaws.{same-names-equal, equal-names-same}
-use Rattle.sexp.specs.declared.skip.After.{After}
-use Rattle.sexp.specs.declared.skip.After.the-variants as A
 use Rattle.sexp.specs.declared.words.Value.{Value}
 use Rattle.sexp.specs.declared.words.Value.the-variants as Val
 use Rattle.sexp.specs.Decimal.{decimalOnto}
-use Rattle.sexp.specs.Sexp.{Sexp, Sexps, str, hinted, list, nil, cons, spell, Stands, StandsAll, nesting, nestings}
-use Rattle.sexp.specs.Past.{PastAt}
+use Rattle.sexp.specs.Sexp.{Sexp, Sexps, str, hinted, list, nil, cons, spell, Stands, StandsAll, nesting}
 use Rattle.sexp.specs.Words.{isNumber, worth}
 use Rattle.sexp.specs.WordsAt.{Numeral, NumberAt}
-use Rattle.sexp.proofs.AnswerLaws.{past-next, past-nothing}
-use Rattle.sexp.proofs.FoundLaws.{ends-others}
-use Rattle.sexp.proofs.StandLaws.{stands-inside, stands-before, stands-once, string-once, list-opens, members-stand, first-stands, others-stand, none-closes, opens-list, no-closing, closes-none}
+use Rattle.sexp.proofs.StandLaws.{stands-inside, stands-before, stands-once, string-once, list-opens, members-stand, first-stands, others-stand, none-closes, opens-list, no-closing}
 use Rattle.sexp.proofs.WordLaws.{worth-decimal, decimal-is}
 use Rattle.sexp.proofs.WordsAtLaws.{number-is, number-nothing}
 use Rattle.packet.specs.Barred.{Holds, termOk, termsOk, atomOk, goalOk, clauseOk}
@@ -66,6 +61,20 @@ module _ (own : ℕ) (bs : Bindings) (i : ℕ) where
     pub asked-not : o ≡ false → also ≡ false → also ≡ asked own bs also v i
     unfolding asked
     asked-not f a = a ∙ ap₂ (λ (t u : Bool). t || (u && eqb i v)) (sym f ∙ e) (sym a)
+
+-- one that is not asked for is variable v if it is once that one is asked for as well
+pub asked-new : (own : ℕ) (bs : Bindings) (i : ℕ) (also : Bool) (v : ℕ) → false ≡ asked own bs also v i → eqb i v ≡ asked own bs true v i
+unfolding asked
+asked-new own bs i also v e = go (isOpen own bs i) refl
+  where
+    go : (o : Bool) → isOpen own bs i ≡ o → eqb i v ≡ isOpen own bs i || eqb i v
+    go true f = absurd (false≢true (e ∙ ap (λ (t : Bool). t || (also && eqb i v)) f))
+    go false f = ap (λ (t : Bool). t || eqb i v) (sym f)
+
+-- none is asked for
+pub asked-idle : (own : ℕ) (also : Bool) → also ≡ false → eqb own 0 ≡ true → (bs : Bindings) (v i : ℕ) → asked own bs also v i ≡ false
+unfolding asked isOpen
+asked-idle own also a z bs v i = ap₂ (λ (t u : Bool). (t && isUnset (boundTo bs i)) || (u && eqb i v)) (le-ltb i own (omega (arith, eqb-true own 0 z))) a
 
 -- a variable asked for so many quantifiers inside: one of theirs, or one from around them
 pub within : (d : ℕ) (p : ℕ → Bool) (i : ℕ) → i < d → insides d p i ≡ false
@@ -138,15 +147,15 @@ same-tells v w = go (sameName v w) refl
     go true e = same-names-equal v w e
     go false e = λ q. false≢true (sym e ∙ equal-names-same v w q)
 
-word-length : length (spell (str (octets "v"))) ≡ 3
+pub word-length : length (spell (str (octets "v"))) ≡ 3
 unfolding decimalOnto
 word-length = refl
 
 module _ (s : List ℕ) (at : ℕ) (small : length s ≤ slice) where
-  members-at : {q : ℕ} {xs : Sexps} → q ≡ plus at 1 → Stands s at (list xs) → StandsAll s q xs
+  pub members-at : {q : ℕ} {xs : Sexps} → q ≡ plus at 1 → Stands s at (list xs) → StandsAll s q xs
   members-at {q} {xs} e h = subst (λ (j : ℕ). StandsAll s j xs) {x = at + 1} {y = q} (omega (arith, e, stands-before h)) (members-stand h)
 
-  begins-told : {q : ℕ} {r : Bool} (w : List ℕ) → q ≡ plus at 1 → Tells r (Stands s q (str w)) → (xs : Sexps) → Stands s at (list xs) → r ≡ begins w xs
+  pub begins-told : {q : ℕ} {r : Bool} (w : List ℕ) → q ≡ plus at 1 → Tells r (Stands s q (str w)) → (xs : Sexps) → Stands s at (list xs) → r ≡ begins w xs
   begins-told {q} {r} w e t xs h = tells-once (Stands s q (str w)) r (begins w xs) t (go xs (members-at e h))
     where
       go : (xs : Sexps) → StandsAll s q xs → Tells (begins w xs) (Stands s q (str w))
@@ -180,49 +189,53 @@ module _ (s : List ℕ) (at : ℕ) (small : length s ≤ slice) where
       subst (λ (j : ℕ). StandsAll s j xs) {x = at + 1 + length (spell x)} {y = q} (omega (arith, w, i, e, small)) (others-stand h)
 
 -- a property asked of the members of a list
-around-insides : (depth : ℕ) (p : ℕ → Bool) (b : Bool) {d : ℕ} → depth + 1 ≤ slice → d ≡ choose b (plus depth 1) depth → choose b (inside (insides depth p)) (insides depth p) ≡ insides d p
+pub around-insides : (depth : ℕ) (p : ℕ → Bool) (b : Bool) {d : ℕ} → depth + 1 ≤ slice → d ≡ choose b (plus depth 1) depth → choose b (inside (insides depth p)) (insides depth p) ≡ insides d p
 around-insides depth p true {d} l e = ap (λ (k : ℕ). insides k p) {x = suc depth} {y = d} (omega (arith, e))
 around-insides depth p false {d} l e = ap (λ (k : ℕ). insides k p) (sym e)
 
-around-most : (depth : ℕ) (b : Bool) {d : ℕ} → d ≡ choose b (plus depth 1) depth → d ≤ depth + 1
+pub around-most : (depth : ℕ) (b : Bool) {d : ℕ} → d ≡ choose b (plus depth 1) depth → d ≤ depth + 1
 around-most depth true e = omega (arith, e)
 around-most depth false e = omega (arith, e)
 
--- members still to come: whether one of them holds a variable decides
-pub record HeldRest (s : List ℕ) (nest : ℕ) (p : ℕ → Bool) (q d : ℕ) (whole : Bool) : Type 0 where
-  pub rest : Sexps
-  pub stands : StandsAll s q rest
-  pub less : nestings rest + 1 ≤ nest
-  pub few : nest ≤ levels
-  pub deep : d + (nest - 1) ≤ mostBytes
-  pub same : whole ≡ heldAny (insides d p) rest
+-- where no variable has the property, nothing holds one
+choose-none : (b : Bool) {x y : Bool} → x ≡ false → y ≡ false → choose b x y ≡ false
+choose-none true e f = e
+choose-none false e f = f
 
--- of the list at an offset, members are asked up to q, each d quantifiers inside
-abbrev pub HeldLeft : List ℕ → ℕ → ℕ → ℕ → (ℕ → Bool) → ℕ → ℕ → Type 0
-HeldLeft s at depth nest p q d =
-    (xs : Sexps) → Stands s at (list xs) → nesting (list xs) ≤ nest → nest ≤ levels → depth + nest ≤ mostBytes → HeldRest s nest p q d (heldIn (insides depth p) (list xs))
+asks-never : (p : ℕ → Bool) → ((i : ℕ) → p i ≡ false) → (xs : Sexps) → asksFirst p xs ≡ false
+asks-never p f nil = refl
+asks-never p f (cons (str w) xs) = go (isNumber w) (f (worth w))
+  where
+    go : (b : Bool) {c : Bool} → c ≡ false → b && c ≡ false
+    go true e = e
+    go false e = refl
+asks-never p f (cons (hinted t w) xs) = refl
+asks-never p f (cons (list ys) xs) = refl
 
--- the next of them, and those after it
-record HeldNext (s : List ℕ) (nest : ℕ) (p : ℕ → Bool) (q d : ℕ) (r whole : Bool) : Type 0 where
-  first : Sexp
-  others : Sexps
-  stands : StandsAll s q (cons first others)
-  shallow : nesting first ≤ levels
-  less : nestings others + 1 ≤ nest
-  few : nest ≤ levels
-  deep : d + (nest - 1) ≤ mostBytes
-  same : whole ≡ r || heldAny (insides d p) others
+inside-never : (b : Bool) (p : ℕ → Bool) → ((i : ℕ) → p i ≡ false) → (i : ℕ) → choose b (inside p) p i ≡ false
+inside-never true p f zero = refl
+inside-never true p f (suc i) = f i
+inside-never false p f i = f i
+
+insides-never : (d : ℕ) (p : ℕ → Bool) → ((i : ℕ) → p i ≡ false) → (i : ℕ) → insides d p i ≡ false
+insides-never zero p f i = f i
+insides-never (suc d) p f i = inside-never true (insides d p) (insides-never d p f) i
+
+mutual
+  never-held : (p : ℕ → Bool) → ((i : ℕ) → p i ≡ false) → (e : Sexp) → heldIn p e ≡ false
+  never-held p f (str w) = refl
+  never-held p f (hinted t w) = refl
+  never-held p f (list xs) = choose-none (begins (octets "v") xs) (asks-never p f (afterFirst xs)) (never-any (choose (binds xs) (inside p) p) (inside-never (binds xs) p f) xs)
+
+  never-any : (p : ℕ → Bool) → ((i : ℕ) → p i ≡ false) → (xs : Sexps) → heldAny p xs ≡ false
+  never-any p f nil = refl
+  never-any p f (cons x xs) = ap₂ _||_ (never-held p f x) (never-any p f xs)
 
 module _ (s : List ℕ) (at depth nest : ℕ) (p : ℕ → Bool) where
-  -- no list
-  pub held-never : nest ≡ 0 → HeldAt s at depth nest p false
-  held-never z e h n l m = go e n
-    where
-      go : (e : Sexp) → nesting e ≤ nest → false ≡ heldIn (insides depth p) e
-      go (str w) n = refl
-      go (hinted t w) n = refl
-      go (list xs) n = absurd (omega (arith, n, z))
+  pub held-never : ((i : ℕ) → p i ≡ false) → HeldAt s at depth nest p false
+  held-never f e h n l m = sym (never-held (insides depth p) (insides-never depth p f) e)
 
+  -- no list
   pub held-flat : {b : Bool} → b ≡ eqb (getD s at 0) 40 → b ≡ false → HeldAt s at depth nest p false
   held-flat e f x h n l m = go x h
     where
@@ -231,89 +244,24 @@ module _ (s : List ℕ) (at depth nest : ℕ) (p : ℕ → Bool) where
       go (hinted t w) h = refl
       go (list xs) h = absurd (eqb-false (getD s at 0) 40 (sym e ∙ f) (list-opens h))
 
-  module _ {b : Bool} (e : b ≡ eqb (getD s at 0) 40) (f : b ≡ true) where
-    by-list : (r : Bool) → ((xs : Sexps) → Stands s at (list xs) → nesting (list xs) ≤ nest → nest ≤ levels → depth + nest ≤ mostBytes → r ≡ heldIn (insides depth p) (list xs)) → HeldAt s at depth nest p r
-    by-list r k x h n l m =
-        let (xs, q) = opens-list h (eqb-true (getD s at 0) 40 (sym e ∙ f)) in
-        subst (λ (z : Sexp). r ≡ heldIn (insides depth p) z) (sym q) (k xs (subst (λ (z : Sexp). Stands s at z) q h) (subst (λ (z : Sexp). nesting z ≤ nest) q n) l m)
+  -- a list
+  pub held-list : (r : Bool) → getD s at 0 ≡ 40 → ((xs : Sexps) → Stands s at (list xs) → nesting (list xs) ≤ nest → nest ≤ levels → depth + nest ≤ mostBytes → r ≡ heldIn (insides depth p) (list xs)) → HeldAt s at depth nest p r
+  held-list r b k x h n l m =
+      let (xs, q) = opens-list h b in
+      subst (λ (z : Sexp). r ≡ heldIn (insides depth p) z) (sym q) (k xs (subst (λ (z : Sexp). Stands s at z) q h) (subst (λ (z : Sexp). nesting z ≤ nest) q n) l m)
 
-    -- a variable
-    pub held-variable : length s ≤ slice → {i q : ℕ} {t : Bool} (r : Bool) → i ≡ plus at 1 → Tells t (Stands s i (str (octets "v"))) → t ≡ true → q ≡ plus at 4 → AsksAt s q depth p r → HeldAt s at depth nest p r
-    held-variable small {i} {q} {t} r j T y k asks = by-list r (λ xs h n l m. go xs h)
-      where
-        go : (xs : Sexps) → Stands s at (list xs) → r ≡ heldIn (insides depth p) (list xs)
-        go xs h =
-            let o : i ≡ at + 1 = omega (arith, j, stands-before h, small) in
-            let w = subst (λ (z : ℕ). Stands s z (str (octets "v"))) o (told-yes y T) in
-            asks (afterFirst xs) (after-word s at small xs (members-stand h) w k)
-            ∙ ap (λ (z : Bool). choose z (asksFirst (insides depth p) (afterFirst xs)) (heldAny (choose (binds xs) (inside (insides depth p)) (insides depth p)) xs)) (sym y ∙ begins-told s at small (octets "v") j T xs h)
-
-    -- members are asked up to an offset
-    module _ {q d : ℕ} (L : HeldLeft s at depth nest p q d) {c : Bool} (g : c ≡ eqb (getD s q 0) 41) where
-      pub held-end : c ≡ true → HeldAt s at depth nest p false
-      held-end t = by-list false (λ xs h n l m. go (L xs h n l m))
-        where
-          go : {whole : Bool} → HeldRest s nest p q d whole → false ≡ whole
-          go R = sym (R .same ∙ ap (heldAny (insides d p)) (closes-none (R .stands) (eqb-true (getD s q 0) 41 (sym g ∙ t))))
-
-      module _ (t : c ≡ false) (r : Bool) (H : HeldAt s q d (nest - 1) p r) where
-        next-held : {whole : Bool} → HeldRest s nest p q d whole → HeldNext s nest p q d r whole
-        next-held {whole} R = go (R .rest) (R .stands) (R .less) (R .same)
-          where
-            go : (xs : Sexps) → StandsAll s q xs → nestings xs + 1 ≤ nest → whole ≡ heldAny (insides d p) xs → HeldNext s nest p q d r whole
-            go nil h n k = absurd (eqb-false (getD s q 0) 41 (sym g ∙ t) (none-closes h))
-            go (cons x xs) h n k =
-                let z = H x (first-stands h) (omega (arith, n)) (omega (arith, R .few)) (R .deep) in
-                record {
-                  first = x;
-                  others = xs;
-                  stands = h;
-                  shallow = omega (arith, n, R .few);
-                  less = omega (arith, n);
-                  few = R .few;
-                  deep = R .deep;
-                  same = k ∙ ap (λ (y : Bool). y || heldAny (insides d p) xs) (sym z);
-                }
-
-        pub held-found : r ≡ true → HeldAt s at depth nest p true
-        held-found y = by-list true (λ xs h n l m. go (next-held (L xs h n l m)))
-          where
-            go : {whole : Bool} → HeldNext s nest p q d r whole → true ≡ whole
-            go N = sym (N .same ∙ ap (λ (z : Bool). z || heldAny (insides d p) (N .others)) y)
-
-        pub held-lost : {a : After} → a ≡ A.Nothing → PastAt s q 64 a → HeldAt s at depth nest p false
-        held-lost y a = by-list false (λ xs h n l m. go (next-held (L xs h n l m)))
-          where
-            go : {whole : Bool} → HeldNext s nest p q d r whole → false ≡ whole
-            go N = absurd (past-nothing y a (N .first) (first-stands (N .stands)) (N .shallow))
-
-        pub held-next : {a : After} {i : ℕ} → r ≡ false → a ≡ A.Next i → PastAt s q 64 a → HeldLeft s at depth nest p i d
-        held-next {i = i} y z a xs h n l m = go (next-held (L xs h n l m))
-          where
-            go : {whole : Bool} → HeldNext s nest p q d r whole → HeldRest s nest p i d whole
-            go N = record {
-              rest = N .others;
-              stands = ends-others (N .stands) (past-next z a);
-              less = N .less;
-              few = N .few;
-              deep = N .deep;
-              same = N .same ∙ ap (λ (x : Bool). x || heldAny (insides d p) (N .others)) y;
-            }
-
-  pub held-start : length s ≤ slice → {i q d : ℕ} {t : Bool} → i ≡ plus at 1 → Tells t (Stands s i (str (octets "v"))) → t ≡ false → AroundAt s at depth d → q ≡ plus at 1 → HeldLeft s at depth nest p q d
-  held-start small {i} {q} {d} {t} j T y around k xs h n l m = record {
-    rest = xs;
-    stands = members-at s at small k h;
-    less = n;
-    few = l;
-    deep = omega (arith, around-most depth (binds xs) (around xs h), n, m);
-    same =
-        ap (λ (z : Bool). choose z (asksFirst (insides depth p) (afterFirst xs)) (heldAny (choose (binds xs) (inside (insides depth p)) (insides depth p)) xs)) (sym (begins-told s at small (octets "v") j T xs h) ∙ y)
-        ∙ ap (λ (P : ℕ → Bool). heldAny P xs) (around-insides depth p (binds xs) (omega (arith, n, m)) (around xs h));
-  }
+  -- a variable
+  pub held-variable : length s ≤ slice → getD s at 0 ≡ 40 → Stands s (plus at 1) (str (octets "v")) → (r : Bool) → AsksAt s (plus at 4) depth p r → HeldAt s at depth nest p r
+  held-variable small b w r asks = held-list r b (λ xs h n l m. go xs h)
+    where
+      go : (xs : Sexps) → Stands s at (list xs) → r ≡ heldIn (insides depth p) (list xs)
+      go xs h =
+          let o : plus at 1 ≡ at + 1 = omega (arith, stands-before h, small) in
+          asks (afterFirst xs) (after-word s at small xs (members-stand h) (subst (λ (z : ℕ). Stands s z (str (octets "v"))) o w) refl)
+          ∙ ap (λ (z : Bool). choose z (asksFirst (insides depth p) (afterFirst xs)) (heldAny (choose (binds xs) (inside (insides depth p)) (insides depth p)) xs)) (begins-told s at small {q = plus at 1} {r = true} (octets "v") refl w xs h)
 
 -- what the expression of a term, an atom, a goal or a clause holds is what it mentions
-or-none : (b : Bool) → b || false ≡ b
+pub or-none : (b : Bool) → b || false ≡ b
 or-none true = refl
 or-none false = refl
 

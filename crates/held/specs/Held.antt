@@ -4,19 +4,26 @@ use Prim.Native.Nat.{ℕ, _+_, _≤_}
 use mathlib.Core.Path.{_≡_}
 use mathlib.Core.Bool.{Bool, true, false, _&&_, _||_}
 use mathlib.Core.List.{List}
+use lib.ListN.{getD}
 use Rattle.basics.specs.Choice.{choose}
 use Rattle.basics.specs.Text.{octets}
 use Rattle.harrop.specs.Bindings.{sameName}
 use Rattle.harrop.specs.Formula.{Term, Goal, Clause}
 use Rattle.harrop.specs.Place.{Plain}
+use Rattle.sexp.specs.declared.skip.After.{After}
+use Rattle.sexp.specs.declared.skip.After.the-variants as A
+use Rattle.sexp.specs.Past.{Ends, PastAt}
 use Rattle.sexp.specs.Sexp.{Sexp, Sexps, Stands, StandsAll, nesting}
 use Rattle.sexp.specs.Words.{isNumber, worth}
+use Rattle.sexp.specs.WordsAt.{Numeral}
 use Rattle.packet.specs.Written.{termSexp, goalSexp, clauseSexp}
 use Rattle.packet.specs.Barred.{termOk, goalOk, clauseOk}
 use Rattle.packet.specs.File.{mostBytes}
 use Rattle.room.specs.Layout.{levels}
 use Rattle.room.specs.Where.{plus}
 use Rattle.mentions.specs.Mentions.{inside, insides, mentionsTerm, mentionsGoal, mentionsClause}
+use Rattle.held.specs.declared.variables.Met.{Met}
+use Rattle.held.specs.declared.variables.Met.the-variants as M
 
 -- whether members begin with a word
 abbrev pub begins : List ℕ → Sexps → Bool
@@ -73,3 +80,30 @@ pub record Holding (s : List ℕ) (at depth nest : ℕ) (p : ℕ → Bool) (r : 
       → r ≡ mentionsGoal (insides depth p) g
   pub clause : (d : Clause Plain) (around : ℕ) → Stands s at (clauseSexp d) → nesting (clauseSexp d) ≤ nest → nest ≤ levels → depth + nest ≤ mostBytes → around ≤ levels → clauseOk around d ≡ true
       → r ≡ mentionsClause (insides depth p) d
+
+-- an expression ends at n; none of its variables has the property that is asked for, and whether one has another is said
+pub record PastBy (s : List ℕ) (at depth nest : ℕ) (p o : ℕ → Bool) (with : Bool) (n : ℕ) : Type 0 where
+  pub none : Holding s at depth nest p false
+  pub others : Holding s at depth nest o with
+  pub ends : Ends s at nest n
+
+-- what is met in the expression at an offset of any bytes: a variable with a property; or none, and then whether one with another property, and where the expression ends; or none stands there
+abbrev pub Meets : List ℕ → ℕ → ℕ → ℕ → (ℕ → Bool) → (ℕ → Bool) → Met → Type 0
+Meets s at depth nest p o M.Asked = Holding s at depth nest p true
+Meets s at depth nest p o (M.Past b n) = PastBy s at depth nest p o b n
+Meets s at depth nest p o M.Nothing = PastAt s at nest A.Nothing
+
+-- the same where a list that may be there opens with the word of a variable, and its end where the number is known
+abbrev pub AtVariable : List ℕ → ℕ → ℕ → Type 0 → Type 0
+AtVariable s at nest P = getD s at 0 ≡ 40 → (nest ≡ 0 → ⊥) → Stands s (plus at 1) (Sexp.str (octets "v")) → P
+
+abbrev pub MeetsVariable : List ℕ → ℕ → ℕ → ℕ → (ℕ → Bool) → (ℕ → Bool) → Met → Type 0
+MeetsVariable s at depth nest p o r = AtVariable s at nest (Meets s at depth nest p o r)
+
+abbrev pub PastVariable : List ℕ → ℕ → ℕ → ℕ → After → Type 0
+PastVariable s at nest i r = AtVariable s at nest (Numeral s (plus at 4) i → PastAt s at nest r)
+
+-- what is met where none is that is asked for, by the end that was found
+abbrev pub metBy : After → Bool → Met
+metBy (A.Next n) b = M.Past b n
+metBy A.Nothing b = M.Nothing
