@@ -23,10 +23,10 @@ use proving::clauses;
 use proving::deeper;
 use proving::is_fact;
 use proving::is_left_out;
+use proving::match_head;
 use proving::narrow_body;
 use proving::open_clause;
 use proving::parts_of;
-use proving::settle;
 use proving::unset_all;
 use proving::word_of;
 use room::Spot;
@@ -332,10 +332,7 @@ fn start<'a>(
     ensures { λ r. ⌜ PassingParts (filesOf (now (rules .entry)) (now (goal .entry)) (now (terms .entry))) (now (room .entry)) (now (room .exit)) w p left r ⌝ }
 {
     unset_all(room, p.head, p.own);
-    if !may_be(rules, goal, terms, room, p.head, w.goal, p.own) {
-        return false;
-    }
-    if !settle(rules, goal, terms, room, w, p) {
+    if !match_head(rules, goal, terms, room, w, p) {
         return false;
     }
     if !body(rules, goal, terms, room, w, p, false, 0, left) {

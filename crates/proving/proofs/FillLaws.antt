@@ -60,10 +60,10 @@ use Rattle.proving.proofs.PassingLaws.{clause-there}
 use Rattle.proving.proofs.PlainLaws.{word-in, frame-set, others-stay, headOf, head-in, parts-over, frame-is, frame-many, frame-ends, head-at, atom-there, filling-kept, word-free, filling-set, filling-body, start-keeps, start-filling}
 use Rattle.proving.proofs.CompletesLaws.{unset-is, open-beyond, open-below, open-less, set-open, open-there, open-set, may-set, unsets-open}
 use Rattle.proving.proofs.LookedLaws.{looked-one, looks-low, looks-first, looks-second, looks-now}
-use Rattle.proving.proofs.FirstLaws.{drop-unsets, located}
+use Rattle.proving.proofs.FirstLaws.{unsets-length, forcing-start, located}
 use Rattle.proving.proofs.FillingLaws.{plain-is, alls-fillable, head-differs, body-lacks, set-goes, filled, filled-fillable, looked-all, looked-start}
 use Rattle.proving.proofs.FillingLaws as filling
-use Rattle.proving.proofs.SettleLaws.{has-head}
+use Rattle.proving.proofs.SettleLaws.{has-head, head-no}
 
 -- one of these numbers is no number outside
 one-differs : (ks : List ℕ) (x n : ℕ) → OneOf ks x → out ks n ≡ true → x ≡ n → ⊥
@@ -234,14 +234,6 @@ unset-fits = omega arith
 module _ {f : Files} {room : List ℕ} {ds : List (Clause Plain)} {us : List Term} {w : Where} {p : Parts} {left : ℕ} {o : List Plain} {c : Hand Plain} {bs : Bindings} {a : Atom} {e : Clause Plain} {fr : Bindings} (t : Filling f room ds us w p left o c bs a e fr) where
   frame-above : stack ≤ p .head .base
   frame-above = head-in f room p e fr (t .parts) .framed .above
-
-  -- the head cannot become the atom
-  head-no : {b : Bool} → MayBe f room (p .head) (w .goal) (p .own) b → b ≡ false → Fillable us left o c bs a e (p .own) fr false
-  head-no h n =
-      let q = t .ready .place in
-      head-differs us left o c bs a e (p .own) fr (headOf e) (has-head f room p e fr (t .parts)) (λ ds′ m.
-      ap (λ (y : Bindings). sameAtom (replacedAtom us ds′ (headOf e)) (replacedAtom us y a)) (sym (q .framed .holds))
-      ∙ h us (headOf e) a (λ s. file-small (q .booked) s) (q .booked .candidates) (head-at t) (atom-there t) n ds′ (subst (λ (y : Bindings). Becomes us (p .own) y ds′) (sym (frame-is t)) m))
 
   module _ {v : ℕ} (l : v < p .own) where
     word-is : variableWord (p .head) v ≡ p .head .base + (p .head .count - 1 - v)
@@ -441,24 +433,21 @@ module _ {f : Files} {room : List ℕ} {w : Where} {p : Parts} {left : ℕ} wher
   plain-no {us = us} {o = o} {c = c} {bs = bs} {a = a} {e = e} {bs′ = bs′} t k n =
       (record { kept = k; answer = alls-fillable us left o c bs a (p .own) e bs′ false n }, λ z. absurd (false≢true z))
 
-  pub plain-head : {mid : List ℕ} {b : Bool} → Unsets room mid (p .head) (p .own) → MayBe f mid (p .head) (w .goal) (p .own) b → b ≡ false → PassingParts f room mid w p left false
-  plain-head u m n ds us o c bs a e bs′ t = plain-no t (start-keeps t u) (head-no (start-filling t u) m n)
-
   pub plain-settled : {mid after : List ℕ} {s : Bool} → Unsets room mid (p .head) (p .own) → Settling f mid after w p s → s ≡ false → PassingParts f room after w p left false
   plain-settled {mid} {after} u m n ds us o c bs a e bs′ t =
-      let (k, st) = m ds us left o c bs a e (unsets (p .own) bs′) (start-filling t u) (unsets-open (p .own) bs′) in
+      let (k, st) = m ds us left o c bs a e (unsets (p .own) bs′) (start-filling t u) in
       plain-no t (keeps-then room mid after (omega arith) (omega arith) (start-keeps t u) k) (st .no n)
 
   pub plain-body : {mid late after : List ℕ} {s b : Bool} → Unsets room mid (p .head) (p .own) → Settling f mid late w p s → s ≡ true → LookingBody f late after w p false 0 left b → b ≡ false → PassingParts f room after w p left false
   plain-body {mid} {late} {after} u m y q z ds us o c bs a e bs′ t =
-      let (k, st) = m ds us left o c bs a e (unsets (p .own) bs′) (start-filling t u) (unsets-open (p .own) bs′) in
+      let (k, st) = m ds us left o c bs a e (unsets (p .own) bs′) (start-filling t u) in
       let (fr, t′, forcing, back) = st .yes y in
       let b = q ds us o c bs a e fr t′ in
       plain-no t (keeps-then room late after (omega arith) (omega arith) (keeps-then room mid late (omega arith) (omega arith) (start-keeps t u) k) (b .kept)) (back false (b .no z))
 
   pub plain-goes : {mid late last after : List ℕ} {s b r : Bool} → Unsets room mid (p .head) (p .own) → Settling f mid late w p s → s ≡ true → LookingBody f late last w p false 0 left b → b ≡ true → length last ≡ length late → FillingFrom f last after w p (p .own) left r → PassingParts f room after w p left r
   plain-goes {mid} {late} {last} {after} {r = r} u m y q z len call ds us o c bs a e bs′ t =
-      let (k, st) = m ds us left o c bs a e (unsets (p .own) bs′) (start-filling t u) (unsets-open (p .own) bs′) in
+      let (k, st) = m ds us left o c bs a e (unsets (p .own) bs′) (start-filling t u) in
       let (fr, t′, forcing, back) = st .yes y in
       let b = q ds us o c bs a e fr t′ in
       let (lv, says) = call ds us o c bs a e fr (filling-kept t′ (b .kept) len) (omega arith) (open-beyond (p .own) fr) (looked-start us left o c bs a e (p .own) fr (b .yes z)) in
@@ -467,7 +456,7 @@ module _ {f : Files} {room : List ℕ} {w : Where} {p : Parts} {left : ℕ} wher
           kept = keeps-then room last after (omega arith) (omega arith) (keeps-then room late last (omega arith) (omega arith) (keeps-then room mid late (omega arith) (omega arith) (start-keeps t u) k) (b .kept)) (lv .kept);
           answer = alls-fillable us left o c bs a (p .own) e bs′ r (back r (filled-fillable us left o c bs a e (p .own) fr (bindingsAt after (p .head)) r few (omega (arith, t′ .own, frame-many t′)) says));
         },
-        λ h. located after (p .head .base) (p .head .count) (t .own) (subst (λ (x : Bindings). Forcing us o (p .own) (passes us left o c bs a e) x fr) (drop-unsets (p .own) bs′) forcing) (says .yes h .0) (says .yes h .1),
+        λ h. located after (p .head .base) (p .head .count) (t .own) (forcing bs′ (forcing-start us o (p .own) (passes us left o c bs a e) bs′)) (says .yes h .0) (says .yes h .1),
       )
 
 -- what is inside the quantifiers of a clause
@@ -482,10 +471,6 @@ core-ok n (Clause.atomD b) e = subst (λ (m : ℕ). clauseOk m (Clause.atomD b) 
 core-ok n (Clause.impD g b) e = subst (λ (m : ℕ). clauseOk m (Clause.impD g b) ≡ true) {x = n} {y = 0 + n} (omega arith) e
 core-ok n (Clause.allD q d) e = subst (λ (m : ℕ). clauseOk m (core d) ≡ true) {x = quantifiers d + suc n} {y = suc (quantifiers d) + n} (omega arith) (core-ok (suc n) d e)
 core-ok n (Clause.andD c d) e = subst (λ (m : ℕ). clauseOk m (Clause.andD c d) ≡ true) {x = n} {y = 0 + n} (omega arith) e
-
-unsets-length : (m : ℕ) (bs : Bindings) → length (unsets m bs) ≡ m + length bs
-unsets-length zero bs = omega arith
-unsets-length (suc m) bs = ap suc (unsets-length m bs) ∙ omega arith
 
 module _ {f : Files} {room : List ℕ} {w : Where} {x : Spot} {p : Parts} {left : ℕ} where
   -- the parts found are where the clause starts

@@ -18,6 +18,7 @@ use Rattle.harrop.specs.Place.{Hand, Plain, listed, allowed}
 use Rattle.room.specs.Where.{Files}
 use Rattle.room.proofs.FrameLaws.{bound-means}
 use Rattle.mentions.specs.Open.{unset, isOpen, Becomes}
+use Rattle.keys.proofs.WalkLaws.{candidate-meant}
 use Rattle.proving.specs.Provable.{anyFrom, candidateDoes, candidatesFrom, through, ending, provable}
 use Rattle.proving.specs.Proving.{passes}
 use Rattle.proving.specs.Parts.{isPlain, quantifiers, core}
@@ -145,12 +146,12 @@ module _ (us : List Term) (left : ℕ) (o : List Plain) (c : Hand Plain) (bs : B
       never-fills (Clause.impD g b) m fr
       (λ ds k. let s : Bool = sameAtom (replacedAtom us ds b) (replacedAtom us bs a) in ap (λ (x : Bool). s && x) (n ds k) ∙ and-none s)
 
-  -- variable v is open, and the atom forces something on it
-  module _ (e : Clause Plain) (b : Atom) (m : ℕ) (fr : Bindings) (v : ℕ) (h : HeadOf e b) (u : isOpen m fr v ≡ true) where
+  -- variable v is open, and whatever frame ends well gives it one term
+  module _ (e : Clause Plain) (m : ℕ) (fr : Bindings) (v : ℕ) (u : isOpen m fr v ≡ true) where
     unset-again : (ds : Bindings) → Completes us o m fr ds → Completes us o m (setTo v unset fr) ds
     unset-again ds k = subst (λ (z : Bindings). Completes us o m z ds) (sym (set-open m fr v u)) k
 
-    pub forced-set : (i : ℕ) (s : Bool) → ((ds : Bindings) → sameAtom (replacedAtom us ds b) (replacedAtom us bs a) ≡ true → valueOf us ds v ≡ meant us (Candidate i)) → allowed (listed us) o tt i ≡ true
+    pub forced-set : (i : ℕ) (s : Bool) → ((ds : Bindings) → passes us left o c bs a e ds ≡ true → valueOf us ds v ≡ meant us (Candidate i)) → allowed (listed us) o tt i ≡ true
         → Fillable us left o c bs a e m (setTo v (Candidate i) fr) s → Fillable us left o c bs a e m fr s
     forced-set i s forced w f =
         record {
@@ -158,33 +159,27 @@ module _ (us : List Term) (left : ℕ) (o : List Plain) (c : Hand Plain) (bs : B
               let (ds, k, p) = f .yes z in
               (ds, subst (λ (x : Bindings). Completes us o m x ds) (set-open m fr v u) (completes-less us o m v i fr ds (open-below m fr v u .0) w k), p);
           no = λ z ds k. refuted (passes us left o c bs a e ds) (λ p.
-              let same = passes-alike (listed us) left o c a bs e ds (setTo v (Candidate i) ds) (set-alike us v (Candidate i) ds (forced ds (head-yes e b ds h p))) in
+              let same = passes-alike (listed us) left o c a bs e ds (setTo v (Candidate i) ds) (set-alike us v (Candidate i) ds (forced ds p)) in
               let none = f .no z (setTo v (Candidate i) ds) (completes-swap us o m v i fr ds (open-below m fr v u .0) w (unset-again ds k)) in
               false≢true (sym none ∙ (sym same ∙ p)));
         }
 
     -- a candidate that may not be used
-    pub forced-barred : (i : ℕ) → ((k : ℕ) (t : Term) → getElem? us k ≡ some t → t ≡ nothing → ⊥) → ((ds : Bindings) → sameAtom (replacedAtom us ds b) (replacedAtom us bs a) ≡ true → valueOf us ds v ≡ meant us (Candidate i)) → allowed (listed us) o tt i ≡ false
+    pub forced-barred : (i : ℕ) → ((k : ℕ) (t : Term) → getElem? us k ≡ some t → t ≡ nothing → ⊥) → ((ds : Bindings) → passes us left o c bs a e ds ≡ true → valueOf us ds v ≡ meant us (Candidate i)) → allowed (listed us) o tt i ≡ false
         → Fillable us left o c bs a e m fr false
     forced-barred i real forced n =
         never-fills e m fr (λ ds k. refuted (passes us left o c bs a e ds) (λ p.
         let (j, w, s, k′) = completes-more us o m v fr ds (open-below m fr v u .0) (unset-again ds k) in
-        let same = ap (meant us) (sym s) ∙ bound-means us ds v ∙ forced ds (head-yes e b ds h p) in
+        let same = ap (meant us) (sym s) ∙ bound-means us ds v ∙ forced ds p in
         false≢true (sym n ∙ may-too us o j i real w same)))
 
-    -- no candidate does
-    pub forced-never : ((ds : Bindings) (i : ℕ) (t : Term) → getElem? us i ≡ some t → valueOf us ds v ≡ t → sameAtom (replacedAtom us ds b) (replacedAtom us bs a) ≡ false) → Fillable us left o c bs a e m fr false
-    forced-never n =
-        never-fills e m fr (λ ds k.
+    -- the term is no candidate
+    pub forced-never : (t : Term) → ((ds : Bindings) → passes us left o c bs a e ds ≡ true → valueOf us ds v ≡ t) → ((i : ℕ) → getElem? us i ≡ some t → ⊥) → Fillable us left o c bs a e m fr false
+    forced-never t forced n =
+        never-fills e m fr (λ ds k. refuted (passes us left o c bs a e ds) (λ p.
         let (j, w, s, k′) = completes-more us o m v fr ds (open-below m fr v u .0) (unset-again ds k) in
-        let (t, q) = may-is us o j w in
-        head-no e b ds h (n ds j t q (sym (bound-means us ds v) ∙ ap (meant us) s ∙ means j t q)))
-      where
-        stands-for : Option Term → Term
-        stands-for x = elim x [ none ↦ nothing | some t ↦ t ]
-
-        means : (j : ℕ) (t : Term) → getElem? us j ≡ some t → meant us (Candidate j) ≡ t
-        means j t q = ap stands-for q
+        let (t′, q) = may-is us o j w in
+        n j (q ∙ ap some (candidate-meant us j t′ q ∙ ap (meant us) (sym s) ∙ bound-means us ds v ∙ forced ds p))))
 
   module _ (e : Clause Plain) (m : ℕ) (fr : Bindings) (v : ℕ) where
     -- with candidate i

@@ -5,7 +5,7 @@ use mathlib.Core.Bool.{Bool, true, false, false≢true}
 use mathlib.Core.List.{List, [], _∷_}
 use native.Mathlib.Omega.{arith}
 use lib.Dec.{eqb}
-use lib.ListN.{length, getD, drop, length-drop}
+use lib.ListN.{length, getD, drop}
 use borrow.Author.Tests.{eqb-true, eqb-false}
 use Rattle.harrop.specs.declared.Binding.{Binding}
 use Rattle.harrop.specs.declared.Binding.the-variants.{Candidate}
@@ -19,7 +19,7 @@ use Rattle.proving.specs.Proving.{passes}
 use Rattle.proving.specs.Frames.{unsets, setTo, Fills, Completes}
 use Rattle.proving.specs.First.{FirstFrame, ForcedOn, Forcing, numberOf, stepsOf, PathIn, Located}
 use Rattle.proving.proofs.AlikeLaws.{Alike, alike-more}
-use Rattle.proving.proofs.CompletesLaws.{unset-unset, open-next, open-below, open-less, open-there, open-set, set-long, set-here, set-there, set-open, may-set, completes-self, completes-less}
+use Rattle.proving.proofs.CompletesLaws.{unset-unset, open-next, open-below, open-less, open-there, open-set, set-long, set-here, set-there, set-open, may-set, completes-self, completes-less, unsets-open}
 
 -- a frame from variable k on: that variable, and those around it
 pub drop-bound : (k : ℕ) (fr : Bindings) → k < length fr → drop k fr ≡ boundTo fr k ∷ drop (suc k) fr
@@ -38,9 +38,13 @@ pub drop-setTo : (k : ℕ) (d : Binding) (fr : Bindings) → k < length fr → d
 drop-setTo k d fr l =
     drop-bound k (setTo k d fr) (omega (arith, set-long k d fr)) ∙ ap₂ {C = Bindings} _∷_ (set-here k d fr l) (drop-set (suc k) k d fr (omega arith))
 
-pub drop-unsets : (m : ℕ) (bs : Bindings) → drop m (unsets m bs) ≡ bs
+drop-unsets : (m : ℕ) (bs : Bindings) → drop m (unsets m bs) ≡ bs
 drop-unsets zero bs = refl
 drop-unsets (suc m) bs = drop-unsets m bs
+
+pub unsets-length : (m : ℕ) (bs : Bindings) → length (unsets m bs) ≡ m + length bs
+unsets-length zero bs = omega arith
+unsets-length (suc m) bs = ap suc (unsets-length m bs) ∙ omega arith
 
 module _ (us : List Term) (o : List Plain) where
   -- unset variables before others: the first of the others stays
@@ -119,9 +123,9 @@ module _ (us : List Term) (o : List Plain) where
         go false e f = let n = eqb-false v k e in f (omega arith)
 
     -- nothing is set at first, and then what is forced on one variable after the other
-    pub forcing-start : (fr : Bindings) → own ≤ length fr → ((v : ℕ) → v < own → isOpen own fr v ≡ true) → Forcing us o own does (drop own fr) fr
-    forcing-start fr l u =
-        record { long = omega (arith, length-drop own fr); others = refl; forced = λ v m n. absurd (false≢true (sym n ∙ u v m)) }
+    pub forcing-start : (bs : Bindings) → Forcing us o own does bs (unsets own bs)
+    forcing-start bs =
+        record { long = unsets-length own bs; others = drop-unsets own bs; forced = λ v m n. absurd (false≢true (sym n ∙ unsets-open own bs v m)) }
 
     pub forcing-set : {bs fr : Bindings} (v i : ℕ) → v < own → ForcedOn us o does v i → Forcing us o own does bs fr → Forcing us o own does bs (setTo v (Candidate i) fr)
     forcing-set {fr = fr} v i l f F =

@@ -1,40 +1,53 @@
--- The variables that an atom forces, set one after the other: how far it has come, and what each answer of `settle` says (document 02, Three).
+-- The head of a clause beside the atom, one argument after the other: what each argument decides of the frame, and what the whole head decides (document 02, Three).
+-- Each law ends in the contract of a function of src/matching.
 use Prim.Native.Nat.{ℕ, _+_, _≤_, _<_}
 use native.Mathlib.Omega.{arith}
 use mathlib.Core.Path.{_≡_, refl, sym, _∙_, ap, subst}
-use mathlib.Core.Bool.{Bool, true, false, _&&_, false≢true}
+use mathlib.Core.Bool.{Bool, true, false, _&&_, not, false≢true}
 use mathlib.Core.List.{List}
 use mathlib.Core.Option.{some}
-use lib.Dec.{ltb, leb}
+use lib.Dec.{ltb, leb, eqb}
 use lib.ListN.{getD, getElem?, drop, set}
 use Rattle.harrop.specs.declared.Binding.the-variants.{Candidate}
 use Rattle.harrop.specs.Formula.{Term, Atom, Clause}
-use Rattle.harrop.specs.Bindings.{Bindings, nothing}
+use Rattle.harrop.specs.Bindings.{Bindings, nothing, meant, valueOf, replaced, replacedAtom, sameTerm, sameAtom}
 use Rattle.harrop.specs.Place.{Hand, Plain}
+use Rattle.harrop.proofs.ListLaws.{member-below}
+use Rattle.harrop.proofs.SameLaws.{same-terms-equal, equal-terms-same}
+use Rattle.sexp.specs.declared.words.Value.{Value}
+use Rattle.sexp.specs.declared.words.Value.the-variants as Val
 use Rattle.packet.specs.Barred.{termOk}
 use Rattle.room.specs.Layout.{candidatesWord, highestWord}
 use Rattle.room.specs.Frame.{bindingWord, held}
+use Rattle.room.specs.Spot.{bindingsAt}
 use Rattle.room.specs.Table.{CandidatesIn}
-use Rattle.room.specs.Where.{Files}
+use Rattle.room.specs.Where.{Files, further}
+use Rattle.room.specs.declared.Spot.{Spot}
 use Rattle.room.specs.declared.Where.{Where}
 use Rattle.room.proofs.WhereLaws.{file-small}
-use Rattle.mentions.specs.Open.{isOpen}
+use Rattle.equal.specs.Term.{TermAt}
+use Rattle.heads.specs.Predicate.{bytesAt}
+use Rattle.mentions.specs.Open.{isOpen, Becomes}
+use Rattle.keys.proofs.WalkLaws.{candidate-meant}
 use Rattle.unset.specs.declared.Forced.{Forced}
 use Rattle.unset.specs.declared.Forced.the-variants as F
-use Rattle.unset.specs.Unset.{ForcedAs, Forces}
+use Rattle.unset.specs.Unset.{MayBe}
+use Rattle.unset.specs.Head.{DiffersAt, NoneOf, CandidateOf, CandidateAt, OpenAs, OpenAt}
+use Rattle.unset.proofs.HeadLaws.{LeftAt, lowest-means, left-beside}
 use Rattle.proving.specs.Stock.{Stock, Keeps}
 use Rattle.proving.specs.Parts.{variableWord}
 use Rattle.proving.specs.Proving.{passes}
 use Rattle.proving.specs.Frames.{setTo}
 use Rattle.proving.specs.First.{Forcing}
-use Rattle.proving.specs.Filling.{PartsIn, Filling, Fillable, Settling, floor}
+use Rattle.proving.specs.Filling.{PartsIn, Filling, Fillable, Settled, Settling, floor}
+use Rattle.proving.specs.Matching.{Beside, Matching, MatchingVariable}
 use Rattle.proving.specs.declared.plain.Parts.{Parts}
 use Rattle.proving.proofs.StockLaws.{keeps-same, keeps-then}
 use Rattle.proving.proofs.ReadyLaws.{may-be, allowed-below}
-use Rattle.proving.proofs.PlainLaws.{headOf, frame-many, head-at, atom-there, write-keeps, filling-set}
-use Rattle.proving.proofs.CompletesLaws.{open-there}
-use Rattle.proving.proofs.FirstLaws.{forcing-start, forcing-set}
-use Rattle.proving.proofs.FillingLaws.{HeadOf, head-yes, forced-set, forced-barred, forced-never}
+use Rattle.proving.proofs.PlainLaws.{headOf, frame-is, head-at, atom-there, write-keeps, filling-set}
+use Rattle.proving.proofs.CompletesLaws.{open-below, completes-becomes}
+use Rattle.proving.proofs.FirstLaws.{forcing-set}
+use Rattle.proving.proofs.FillingLaws.{HeadOf, refuted, head-yes, head-differs, never-fills, forced-set, forced-barred, forced-never}
 
 -- no candidate is `e` 0
 pub no-stand-in : {room terms : List ℕ} {us : List Term} → CandidatesIn room terms us → (i : ℕ) (t : Term) → getElem? us i ≡ some t → t ≡ nothing → ⊥
@@ -47,92 +60,122 @@ has-head f room p (Clause.impD g b) fr h = refl
 has-head f room p (Clause.allD q d) fr h = absurd h
 has-head f room p (Clause.andD c d) fr h = absurd h
 
--- the variables below v are done: what is forced on them is set, those from v on are still unset, and what is said of the frame now holds of the frame before
-pub record Partly (f : Files) (now : List ℕ) (ds : List (Clause Plain)) (us : List Term) (w : Where) (p : Parts) (left : ℕ) (o : List Plain) (c : Hand Plain) (bs : Bindings) (a : Atom) (e : Clause Plain) (fr : Bindings) (v : ℕ) : Type 0 where
-  pub frame : Bindings
-  pub filling : Filling f now ds us w p left o c bs a e frame
-  pub still : (i : ℕ) → v ≤ i → i < p .own → isOpen (p .own) frame i ≡ true
-  pub forcing : Forcing us o (p .own) (passes us left o c bs a e) (drop (p .own) fr) frame
-  pub before : (s : Bool) → Fillable us left o c bs a e (p .own) frame s → Fillable us left o c bs a e (p .own) fr s
+-- what is claimed of a frame, and what a no claims
+abbrev Claim : Files → List ℕ → List ℕ → List (Clause Plain) → List Term → Where → Parts → ℕ → List Plain → Hand Plain → Bindings → Atom → Clause Plain → Bindings → Bool → Type 0
+Claim f room after ds us w p left o c bs a e fr r = Keeps (Stock f ds us (w .supposed) c) (w .supposed) (floor p) room after × Settled f after ds us w p left o c bs a e fr r
 
-abbrev pub SettledTo : Files → List ℕ → Where → Parts → List ℕ → ℕ → Type 0
-SettledTo f room w p now v =
-    (ds : List (Clause Plain)) (us : List Term) (left : ℕ) (o : List Plain) (c : Hand Plain) (bs : Bindings) (a : Atom) (e : Clause Plain) (fr : Bindings) →
-    Filling f room ds us w p left o c bs a e fr → ((i : ℕ) → i < p .own → isOpen (p .own) fr i ≡ true) →
-    Keeps (Stock f ds us (w .supposed) c) (w .supposed) (floor p) room now × Partly f now ds us w p left o c bs a e fr v
+module _ {f : Files} {room : List ℕ} {ds : List (Clause Plain)} {us : List Term} {w : Where} {p : Parts} {left : ℕ} {o : List Plain} {c : Hand Plain} {bs : Bindings} {a : Atom} {e : Clause Plain} {fr : Bindings} where
+  denied : {now : List ℕ} → Keeps (Stock f ds us (w .supposed) c) (w .supposed) (floor p) room now → Fillable us left o c bs a e (p .own) fr false → Claim f room now ds us w p left o c bs a e fr false
+  denied k n = (k, record { yes = λ z. absurd (false≢true z); no = λ z. n })
 
--- what is forced on a variable, at the place
-forced-at : {f : Files} {now : List ℕ} {ds : List (Clause Plain)} {us : List Term} {w : Where} {p : Parts} {left : ℕ} {o : List Plain} {c : Hand Plain} {bs : Bindings} {a : Atom} {e : Clause Plain} {fr : Bindings} {r q : Forced} (v : ℕ) → Filling f now ds us w p left o c bs a e fr → Forces f now (p .head) (w .goal) v r → r ≡ q → ForcedAs us bs (headOf e) a v q
-forced-at {us = us} {bs = bs} {a = a} {e = e} {r = r} v t k j =
-    let place = t .ready .place in
-    subst (ForcedAs us bs (headOf e) a v) j
-    (subst (λ (z : Bindings). ForcedAs us z (headOf e) a v r) (place .framed .holds)
-    (k us (headOf e) a (λ s. file-small (place .booked) s) (place .booked .candidates) (t .ready .stock .keys .candidates) (head-at t) (atom-there t)))
+  -- nothing is decided
+  open-still : Filling f room ds us w p left o c bs a e fr → Claim f room room ds us w p left o c bs a e fr true
+  open-still t = (keeps-same room, record { yes = λ z. (fr, t, λ around h. h, λ s h. h); no = λ z. absurd (false≢true (sym z)) })
 
+  -- one decides after the other
+  decided-then : {now after : List ℕ} {r : Bool} → Claim f room now ds us w p left o c bs a e fr true → ((fr′ : Bindings) → Filling f now ds us w p left o c bs a e fr′ → Claim f now after ds us w p left o c bs a e fr′ r) → Claim f room after ds us w p left o c bs a e fr r
+  decided-then {now} {after} (k, st) next =
+      let (fr′, t, forcing, back) = st .yes refl in
+      let (k′, st′) = next fr′ t in (
+        keeps-then room now after (omega arith) (omega arith) k k′,
+        record {
+          yes = λ z. let (fr″, t′, forcing′, back′) = st′ .yes z in (fr″, t′, λ around h. forcing′ around (forcing around h), λ s h. back s (back′ s h));
+          no = λ z. back false (st′ .no z);
+        },
+      )
+
+  -- the head cannot become the atom
+  pub head-no : Filling f room ds us w p left o c bs a e fr → {b : Bool} → MayBe f room (p .head) (w .goal) (p .own) b → b ≡ false → Fillable us left o c bs a e (p .own) fr false
+  head-no t h n =
+      let q = t .ready .place in
+      head-differs us left o c bs a e (p .own) fr (headOf e) (has-head f room p e fr (t .parts)) (λ ds′ m.
+      ap (λ (y : Bindings). sameAtom (replacedAtom us ds′ (headOf e)) (replacedAtom us y a)) (sym (q .framed .holds))
+      ∙ h us (headOf e) a (λ s. file-small (q .booked) s) (q .booked .candidates) (head-at t) (atom-there t) n ds′ (subst (λ (y : Bindings). Becomes us (p .own) y ds′) (sym (frame-is t)) m))
+
+-- a variable that is unset, by the lowest candidate that is the atom's term
+module _ {f : Files} {room : List ℕ} {w : Where} {p : Parts} {y : Spot} (v : ℕ) {z : Forced} (C : CandidateAt f room y z) where
+  told : {q : Forced} {ds : List (Clause Plain)} {us : List Term} {left : ℕ} {o : List Plain} {c : Hand Plain} {bs : Bindings} {a : Atom} {e : Clause Plain} {fr : Bindings} {u : Term} → Filling f room ds us w p left o c bs a e fr → TermAt (f .rules) (f .goal) (f .terms) y u → bindingsAt room y ≡ bs → z ≡ q → CandidateOf us (replaced us bs u) q
+  told {us = us} {u = u} t T b i =
+      subst (CandidateOf us (replaced us _ u)) i
+      (subst (λ (x : Bindings). CandidateOf us (replaced us x u) z) b (C us u (t .ready .place .booked .candidates) (t .ready .stock .keys .candidates) T))
+
+  pub variable-nothing : z ≡ F.Nothing → MatchingVariable f room room w p v y false
+  variable-nothing i ds us left o c bs a e fr u t n T b s = absurd (told t T b i)
+
+  pub variable-never : z ≡ F.Never → MatchingVariable f room room w p v y false
+  variable-never i ds us left o c bs a e fr u t n T b s =
+      let none = told t T b i in
+      denied (keeps-same room) (forced-never us left o c bs a e (p .own) fr v n (replaced us bs u) s (λ j m. none j (member-below us j (replaced us bs u) m) m))
+
+  module _ (i : ℕ) (j : z ≡ F.Candidate i) where
+    gives : {ds : List (Clause Plain)} {us : List Term} {left : ℕ} {o : List Plain} {c : Hand Plain} {bs : Bindings} {a : Atom} {e : Clause Plain} {fr : Bindings} {u : Term} → Filling f room ds us w p left o c bs a e fr → TermAt (f .rules) (f .goal) (f .terms) y u → bindingsAt room y ≡ bs → ((es : Bindings) → passes us left o c bs a e es ≡ true → valueOf us es v ≡ replaced us bs u)
+        → (es : Bindings) → passes us left o c bs a e es ≡ true → valueOf us es v ≡ meant us (Candidate i)
+    gives {us = us} {bs = bs} {u = u} t T b s es q = s es q ∙ candidate-meant us i (replaced us bs u) (told t T b j .0)
+
+    module _ {q : Bool} (g : q ≡ (ltb i (getD room candidatesWord 0) && leb (getD room (highestWord i) 0) (w .parameters))) where
+      pub variable-barred : q ≡ false → MatchingVariable f room room w p v y false
+      variable-barred n ds us left o c bs a e fr u t k T b s =
+          let place = t .ready .place in
+          let barred = sym (may-be room (f .terms) us o tt i (w .parameters) (place .booked .candidates) (place .openly)) ∙ (sym g ∙ n) in
+          denied (keeps-same room) (forced-barred us left o c bs a e (p .own) fr v k i (no-stand-in (place .booked .candidates)) (gives t T b s) barred)
+
+      pub variable-set : {after : List ℕ} {x : ℕ} → q ≡ true → x ≡ variableWord (p .head) v → after ≡ set room x (held (bindingWord (Candidate i))) → MatchingVariable f room after w p v y true
+      variable-set n x h =
+          subst (λ (l : List ℕ). MatchingVariable f room l w p v y true) (sym (h ∙ ap (λ (m : ℕ). set room m (held (bindingWord (Candidate i)))) x))
+          (λ ds us left o c bs a e fr u t k T b s.
+          let place = t .ready .place in
+          let may = sym (may-be room (f .terms) us o tt i (w .parameters) (place .booked .candidates) (place .openly)) ∙ (sym g ∙ n) in
+          let few = allowed-below us o tt i may in
+          let below = open-below (p .own) fr v k .0 in
+          let here = told t T b j in (
+            write-keeps t v (Candidate i) below,
+            record {
+              yes = λ m. (
+                setTo v (Candidate i) fr,
+                filling-set t v (Candidate i) below (omega (arith, place .booked .candidates .few)),
+                λ around. forcing-set us o (p .own) (passes us left o c bs a e) v i below (record { may = may; lowest = lowest-means us (replaced us bs u) i (here .0) (here .1); only = gives t T b s }),
+                λ r. forced-set us left o c bs a e (p .own) fr v k i r (gives t T b s) may,
+              );
+              no = λ m. absurd (false≢true (sym m));
+            },
+          ))
+
+-- an argument of the head beside one of the atom
+module _ {f : Files} {room : List ℕ} {w : Where} {p : Parts} {x y : Spot} where
+  pub match-variable : {after : List ℕ} {q : Value} {v : ℕ} {r : Bool} → OpenAt f room x (p .own) q → q ≡ Val.Is v → MatchingVariable f room after w p v y r → Matching f room after w p x y r
+  match-variable {v = v} O i M ds us left o c bs a e fr t u F B =
+      let (is, n) = subst (OpenAs (p .own) (bindingsAt room x) t) i (O t (B .here)) in
+      M ds us left o c bs a e fr u F (ap (λ (z : Bindings). isOpen (p .own) z v) (sym (B .frame)) ∙ n) (B .there) (B .around) (λ es q. ap (replaced us es) (sym is) ∙ B .same es q)
+
+  pub match-compared : (d : Bool) → DiffersAt f room x y (p .own) d → Matching f room room w p x y (not d)
+  match-compared false D ds us left o c bs a e fr t u F B = open-still F
+  match-compared true D ds us left o c bs a e fr t u F B =
+      denied (keeps-same room) (never-fills us left o c bs a e (p .own) fr (λ es k. refuted (passes us left o c bs a e es) (λ q.
+      let differ = D us t u (F .ready .place .booked .candidates) (B .here) (B .there) refl es (subst (λ (z : Bindings). Becomes us (p .own) z es) (sym (B .frame)) (completes-becomes us o (p .own) fr es k)) in
+      false≢true (sym differ ∙ (ap (λ (z : Bindings). sameTerm (replaced us es t) (replaced us z u)) (B .around) ∙ equal-terms-same (replaced us es t) (replaced us bs u) (B .same es q))))))
+
+-- the whole head
 module _ {f : Files} {room : List ℕ} {w : Where} {p : Parts} where
-  pub settle-start : SettledTo f room w p room 0
-  settle-start ds us left o c bs a e fr t u = (
-    keeps-same room,
-    record {
-      frame = fr;
-      filling = t;
-      still = λ i l h. u i h;
-      forcing = forcing-start us o (p .own) (passes us left o c bs a e) fr (omega (arith, t .own, frame-many t)) u;
-      before = λ s h. h;
-    },
-  )
+  pub settle-start : Settling f room room w p true
+  settle-start ds us left o c bs a e fr t = open-still t
 
-  pub settle-none : {now : List ℕ} (v : ℕ) → SettledTo f room w p now v → SettledTo f room w p now (v + 1)
-  settle-none v inv ds us left o c bs a e fr t u =
-      let (kept, m) = inv ds us left o c bs a e fr t u in
-      (kept, record { frame = m .frame; filling = m .filling; still = λ i l h. m .still i (omega arith) h; forcing = m .forcing; before = m .before })
+  -- what is found out of the head and the atom as they stood
+  pub settle-may-be : {now : List ℕ} (d : Bool) → Settling f room now w p true → MayBe f room (p .head) (w .goal) (p .own) d → Settling f room now w p d
+  settle-may-be true inv m = inv
+  settle-may-be false inv m = λ ds us left o c bs a e fr t. denied (inv ds us left o c bs a e fr t .0) (head-no t m refl)
 
-  pub settle-never : {now : List ℕ} {r : Forced} (v : ℕ) → v < p .own → SettledTo f room w p now v → Forces f now (p .head) (w .goal) v r → r ≡ F.Never → Settling f room now w p false
-  settle-never {now} v l inv k j ds us left o c bs a e fr t u =
-      let (kept, m) = inv ds us left o c bs a e fr t u in
-      let fi = m .filling in (
-        kept,
-        record {
-          yes = λ z. absurd (false≢true z);
-          no = λ z. m .before false (forced-never us left o c bs a e (headOf e) (p .own) (m .frame) v (has-head f now p e (m .frame) (fi .parts)) (m .still v (omega arith) l) (forced-at v fi k j));
-        },
-      )
-
-  pub settle-barred : {now : List ℕ} {r : Forced} {i : ℕ} {q : Bool} (v : ℕ) → v < p .own → SettledTo f room w p now v → Forces f now (p .head) (w .goal) v r → r ≡ F.Candidate i → q ≡ (ltb i (getD now candidatesWord 0) && leb (getD now (highestWord i) 0) (w .parameters)) → q ≡ false → Settling f room now w p false
-  settle-barred {now} {i = i} v l inv k j g n ds us left o c bs a e fr t u =
-      let (kept, m) = inv ds us left o c bs a e fr t u in
-      let fi = m .filling in
-      let place = fi .ready .place in
-      let barred = sym (may-be now (f .terms) us o tt i (w .parameters) (place .booked .candidates) (place .openly)) ∙ (sym g ∙ n) in (
-        kept,
-        record {
-          yes = λ z. absurd (false≢true z);
-          no = λ z. m .before false (forced-barred us left o c bs a e (headOf e) (p .own) (m .frame) v (has-head f now p e (m .frame) (fi .parts)) (m .still v (omega arith) l) i (no-stand-in (place .booked .candidates)) (forced-at v fi k j .gives) barred);
-        },
-      )
-
-  pub settle-set : {now after : List ℕ} {r : Forced} {i y : ℕ} {q : Bool} (v : ℕ) → v < p .own → SettledTo f room w p now v → Forces f now (p .head) (w .goal) v r → r ≡ F.Candidate i → q ≡ (ltb i (getD now candidatesWord 0) && leb (getD now (highestWord i) 0) (w .parameters)) → q ≡ true → y ≡ variableWord (p .head) v → after ≡ set now y (held (bindingWord (Candidate i))) → SettledTo f room w p after (v + 1)
-  settle-set {now} {i = i} v l inv k j g n y z =
-      subst (λ (x : List ℕ). SettledTo f room w p x (v + 1)) (sym (z ∙ ap (λ (s : ℕ). set now s (held (bindingWord (Candidate i)))) y))
-      (λ ds us left o c bs a e fr t u.
-      let (kept, m) = inv ds us left o c bs a e fr t u in
-      let fi = m .filling in
-      let place = fi .ready .place in
-      let may = sym (may-be now (f .terms) us o tt i (w .parameters) (place .booked .candidates) (place .openly)) ∙ (sym g ∙ n) in
-      let few = allowed-below us o tt i may in
-      let head = has-head f now p e (m .frame) (fi .parts) in
-      let forced = forced-at v fi k j in (
-        keeps-then room now (set now (variableWord (p .head) v) (held (bindingWord (Candidate i)))) (omega arith) (omega arith) kept (write-keeps fi v (Candidate i) l),
-        record {
-          frame = setTo v (Candidate i) (m .frame);
-          filling = filling-set fi v (Candidate i) l (omega (arith, place .booked .candidates .few));
-          still = λ x s h. open-there (p .own) v x (Candidate i) (m .frame) (λ b. omega arith) ∙ m .still x (omega arith) h;
-          forcing = forcing-set us o (p .own) (passes us left o c bs a e) v i l (record { may = may; lowest = forced .lowest; only = λ es q. forced .gives es (head-yes us left o c bs a e (headOf e) es head q) }) (m .forcing);
-          before = λ s h. m .before s (forced-set us left o c bs a e (headOf e) (p .own) (m .frame) v head (m .still v (omega arith) l) i s (forced .gives) may h);
-        },
-      ))
-
-  pub settle-done : {now : List ℕ} (v : ℕ) → SettledTo f room w p now v → Settling f room now w p true
-  settle-done v inv ds us left o c bs a e fr t u =
-      let (kept, m) = inv ds us left o c bs a e fr t u in
-      (kept, record { yes = λ z. (m .frame, m .filling, m .forcing, m .before); no = λ z. absurd (false≢true (sym z)) })
+  -- the next argument
+  pub settle-next : {now after s t : List ℕ} (i j : ℕ) {x y : Spot} {g h r : Bool} (q : Bool) → s ≡ drop (p .head .at) (bytesAt f (p .head)) → t ≡ drop (w .goal .at) (bytesAt f (w .goal)) → LeftAt f room (p .head) (w .goal) s t i j → g ≡ eqb (getD s i 0) 41 → g ≡ false → h ≡ eqb (getD t j 0) 41 → h ≡ false
+      → Settling f room now w p true → x ≡ further (p .head) i → y ≡ further (w .goal) j → Matching f now after w p x y r → r ≡ q → Settling f room after w p q
+  settle-next {now} {after} i j {y = y} {r = r} z es et L ge gn he hn inv ex ey M v ds us left o c bs a e fr t =
+      let q = t .ready .place in
+      let l = left-beside f room (p .head) (w .goal) es et i j L ge gn he hn us (headOf e) a (λ s. file-small (q .booked) s) (q .booked .candidates) (head-at t) (atom-there t) in
+      let implied = subst (λ (z : Bindings). (ds : Bindings) → sameAtom (replacedAtom us ds (headOf e)) (replacedAtom us z a) ≡ true → sameTerm (replaced us ds (l .u)) (replaced us z (l .w)) ≡ true) (q .framed .holds) (l .implied) in
+      let M′ = subst (λ (b : Bool). Matching f now after w p (further (p .head) i) (further (w .goal) j) b) v (subst (λ (n : Spot). Matching f now after w p (further (p .head) i) n r) ey (subst (λ (n : Spot). Matching f now after w p n y r) ex M)) in
+      decided-then (inv ds us left o c bs a e fr t) (λ fr′ t′. M′ ds us left o c bs a e fr′ (l .u) (l .w) t′ (record {
+        here = l .here;
+        there = l .there;
+        frame = frame-is t′;
+        around = t′ .ready .place .framed .holds;
+        same = λ es k. same-terms-equal (replaced us es (l .u)) (replaced us bs (l .w)) (implied es (head-yes us left o c bs a e (headOf e) es (has-head f room p e fr (t .parts)) k));
+      }))

@@ -5,7 +5,7 @@ use mathlib.Core.Path.{_≡_}
 use mathlib.Core.Bool.{Bool, true, false}
 use mathlib.Core.List.{List}
 use mathlib.Core.Option.{some}
-use lib.ListN.{length, getD, getElem?, drop}
+use lib.ListN.{length, getD, getElem?}
 use Rattle.harrop.specs.declared.Binding.the-variants.{Candidate}
 use Rattle.harrop.specs.Formula.{Term, Atom, Goal, Clause}
 use Rattle.harrop.specs.Bindings.{Bindings, replacedAtom}
@@ -134,15 +134,15 @@ pub record Fillable (us : List Term) (left : ℕ) (o : List Plain) (c : Hand Pla
   pub yes : r ≡ true → (ds : Bindings) × Completes us o m fr ds × (passes us left o c bs a e ds ≡ true)
   pub no : r ≡ false → (ds : Bindings) → Completes us o m fr ds → passes us left o c bs a e ds ≡ false
 
--- what the atom forces is set, and nothing else: whatever is said of the frame then holds of the frame before; or it cannot be
+-- what the atom forces is set, and nothing else: where only what is forced was set before, only that is set then, and whatever is said of the frame then holds of the frame before; or nothing completes it
 pub record Settled (f : Files) (after : List ℕ) (ds : List (Clause Plain)) (us : List Term) (w : Where) (p : Parts) (left : ℕ) (o : List Plain) (c : Hand Plain) (bs : Bindings) (a : Atom) (e : Clause Plain) (fr : Bindings) (r : Bool) : Type 0 where
-  pub yes : r ≡ true → (fr′ : Bindings) × Filling f after ds us w p left o c bs a e fr′ × Forcing us o (p .own) (passes us left o c bs a e) (drop (p .own) fr) fr′ × ((s : Bool) → Fillable us left o c bs a e (p .own) fr′ s → Fillable us left o c bs a e (p .own) fr s)
+  pub yes : r ≡ true → (fr′ : Bindings) × Filling f after ds us w p left o c bs a e fr′ × ((around : Bindings) → Forcing us o (p .own) (passes us left o c bs a e) around fr → Forcing us o (p .own) (passes us left o c bs a e) around fr′) × ((s : Bool) → Fillable us left o c bs a e (p .own) fr′ s → Fillable us left o c bs a e (p .own) fr s)
   pub no : r ≡ false → Fillable us left o c bs a e (p .own) fr false
 
 abbrev pub Settling : Files → List ℕ → List ℕ → Where → Parts → Bool → Type 0
 Settling f room after w p r =
     (ds : List (Clause Plain)) (us : List Term) (left : ℕ) (o : List Plain) (c : Hand Plain) (bs : Bindings) (a : Atom) (e : Clause Plain) (fr : Bindings) →
-    Filling f room ds us w p left o c bs a e fr → ((i : ℕ) → i < p .own → isOpen (p .own) fr i ≡ true) →
+    Filling f room ds us w p left o c bs a e fr →
     Keeps (Stock f ds us (w .supposed) c) (w .supposed) (floor p) room after × Settled f after ds us w p left o c bs a e fr r
 
 -- all goals of the body that hold no unset variable have a proof

@@ -6,4 +6,5 @@ pub mod Parts
 pub mod Frames
 pub mod First
 pub mod Filling
+pub mod Matching
 pub mod Tried

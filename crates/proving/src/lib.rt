@@ -1,5 +1,6 @@
 // What it is for a search to be right of a goal, a clause and its frame, the laws on it, and the parts of a clause on the bytes (document 01, "Which strip the search writes"; document 02, Three).
 mod hand;
+mod matching;
 mod plain;
 mod tried;
 
@@ -8,16 +9,16 @@ pub use hand::clauses;
 pub use hand::deeper;
 pub use hand::is_fact;
 pub use hand::open_clause;
+pub use matching::match_head;
 pub use plain::Parts;
 pub use plain::body_place;
 pub use plain::is_plain;
 pub use plain::parts_of;
-pub use plain::settle;
 pub use plain::unset_all;
 pub use plain::word_of;
+use room::Spot;
 pub use tried::is_left_out;
 pub use tried::narrow_body;
-use room::Spot;
 
 // Clause k, if it is at hand.
 pub enum Chosen {

@@ -1,5 +1,5 @@
 // A clause with no `and` on the way to its one head, searched for an atom: its own variables are unset at first, those that the atom forces are set, and the others get one candidate after the other.
-// A goal of the body is looked at as soon as its variables are set, and only then (document 02, Three: no verdict and no strip changes).
+// A goal of the body is looked at as soon as its variables are set, and only then (document 02, Three: no verdict and no strip changes). How the atom forces variables is in src/matching.
 use crate::hand::deeper;
 use harrop::Binding;
 use packet::Word;
@@ -11,14 +11,11 @@ use room::Spot;
 use room::Where;
 use room::push;
 use sexp::After;
-use start::may_use;
-use unset::Forced;
-use unset::forced_by;
 ghost use Rattle.room.specs.Where.{filesOf};
 ghost use mathlib.Core.Bool.{false};
 ghost use mathlib.Core.Path.{_≡_};
 ghost use Rattle.proving.specs.Parts.{PartsOf, PlainAt, variableWord, bodyPlace};
-ghost use Rattle.proving.specs.Filling.{Unsets, Settling};
+ghost use Rattle.proving.specs.Filling.{Unsets};
 
 // Such a clause: how many variables of its own it has, whether it has a body, and where body and head stand, in the frame of all its variables.
 pub struct Parts {
@@ -123,37 +120,4 @@ pub fn body_place(w: Where, p: Parts) -> Where
         parameters: w.parameters,
         top: plus(g.base, g.count),
     }
-}
-
-// The variables that the atom forces are set. No: one of them cannot be.
-pub fn settle<'a>(
-    rules: &'a [u8],
-    goal: &'a [u8],
-    terms: &'a [u8],
-    room: &mut [u32],
-    w: Where,
-    p: Parts,
-) -> bool
-    ensures { λ r. ⌜ Settling (filesOf (now (rules .entry)) (now (goal .entry)) (now (terms .entry))) (now (room .entry)) (now (room .exit)) w p r ⌝ }
-{
-    let mut v = 0;
-    while v < p.own {
-        match forced_by(rules, goal, terms, room, p.head, w.goal, v) {
-            Forced::Nothing => {
-                v += 1;
-                continue;
-            }
-            Forced::Never => {
-                return false;
-            }
-            Forced::Candidate(c) => {
-                if !may_use(room, w.parameters, c as usize) {
-                    return false;
-                }
-                push(room, word_of(p.head, v), Binding::Candidate(c));
-            }
-        }
-        v += 1;
-    }
-    true
 }

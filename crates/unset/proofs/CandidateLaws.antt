@@ -13,7 +13,7 @@ use Rattle.basics.specs.Text.{octets}
 use Rattle.harrop.specs.declared.Binding.{Binding}
 use Rattle.harrop.specs.declared.Binding.the-variants.{Candidate}
 use Rattle.harrop.specs.Formula.{Term}
-use Rattle.harrop.specs.Bindings.{meant, valueOf, replaced, sameTerm}
+use Rattle.harrop.specs.Bindings.{meant, replaced, sameTerm}
 use Rattle.harrop.proofs.ListLaws.{below-member}
 use Rattle.harrop.proofs.SameLaws.{same-terms-equal, equal-terms-same}
 use Rattle.sexp.specs.declared.words.Value.{Value}
@@ -33,11 +33,12 @@ use Rattle.room.proofs.NestLaws.{replaced-nests}
 use Rattle.equal.proofs.SeeLaws.{number-read}
 use Rattle.equal.proofs.TermLaws.{part-stands, term-word, term-text, text-once, closed-stays}
 use Rattle.heads.specs.Predicate.{bytesAt}
+use Rattle.mentions.specs.Open.{isOpen}
 use Rattle.keys.specs.Key.{termKey}
 use Rattle.keys.specs.Keys.{CandidateKeys, TermKeyAt}
 use Rattle.keys.proofs.WalkLaws.{candidate-meant, no-f-v, no-e-v}
 use Rattle.unset.specs.declared.Forced.the-variants as F
-use Rattle.unset.specs.Head.{candidateSpot, Numbered, IsCandidate, NoneOf, LowestOf, LowestAt, BoundTo, CandidateAt}
+use Rattle.unset.specs.Head.{candidateSpot, Numbered, IsCandidate, NoneOf, LowestOf, LowestAt, BoundTo, CandidateAt, OpenAt}
 use Rattle.unset.proofs.HeadLaws.{never}
 
 -- a spot of the terms file with no frame
@@ -87,25 +88,36 @@ module _ (f : Files) (room : List ℕ) (y : Spot) (key : ℕ) where
             let w = replaced us (bindingsAt room y) u in
             false≢true (sym o ∙ M us u C K T q w (subst (λ (n : ℕ). getElem? us n ≡ some w) k e) ∙ equal-terms-same w w refl)
 
--- the candidate that the variable at a spot is bound to
+-- a variable that is read at a spot stands there
+variable-is : {f : Files} {y : Spot} {s : List ℕ} {r : Bool} {v : Value} {j : ℕ} → s ≡ drop (y .at) (bytesAt f y) → Tells r (Stands s 1 (str (octets "v"))) → r ≡ true → NumberAt s 4 v → v ≡ Val.Is j → (u : Term) → TermAt (f .rules) (f .goal) (f .terms) y u → u ≡ Term.v j
+variable-is {f} {y} {s} {v = v} {j = j} e h i n k u T = go u T (subst (λ (p : List ℕ). Stands p 0 (termSexp u)) (sym e) (part-stands (T .stands)))
+  where
+    go : (u : Term) → TermAt (f .rules) (f .goal) (f .terms) y u → Stands s 0 (termSexp u) → u ≡ Term.v j
+    go (Term.v m) T g =
+        let l = ltb-true m (y .count) (T .ok) in
+        let z = number-read m v (term-text (Term.v m) g) (omega (arith, l, T .few)) n in
+        let same : m ≡ j = cc in
+        ap Term.v same
+    go (Term.f g′ ts) T g = absurd (no-f-v (text-once (term-word (Term.f g′ ts) g) (told-yes i h)))
+    go (Term.e m) T g = absurd (no-e-v (text-once (term-word (Term.e m) g) (told-yes i h)))
+
+-- the candidate that the variable at a spot is bound to, and whether it is unset
 module _ (f : Files) (room : List ℕ) (y : Spot) where
   pub bound-nowhere : BoundTo f room y 4294967295
   bound-nowhere us u C T l = absurd (omega (arith, C .few))
 
-  pub bound-there : {s : List ℕ} {r : Bool} {v : Value} {j c : ℕ} {b : Binding} → s ≡ drop (y .at) (bytesAt f y) → Tells r (Stands s 1 (str (octets "v"))) → r ≡ true → NumberAt s 4 v → v ≡ Val.Is j
-      → b ≡ boundTo (bindingsAt room y) j → b ≡ Candidate c → BoundTo f room y c
-  bound-there {s} {r} {v} {j} {c} {b} e h i n k q o us u C T l =
-      let (t, m) = below-member us c l in
-      m ∙ ap some (candidate-meant us c t m ∙ sym (go u T (subst (λ (p : List ℕ). Stands p 0 (termSexp u)) (sym e) (part-stands (T .stands)))))
-    where
-      go : (u : Term) → TermAt (f .rules) (f .goal) (f .terms) y u → Stands s 0 (termSexp u) → replaced us (bindingsAt room y) u ≡ meant us (Candidate c)
-      go (Term.v m) T g =
-          let l = ltb-true m (y .count) (T .ok) in
-          let z = number-read m v (term-text (Term.v m) g) (omega (arith, l, T .few)) n in
-          let same : j ≡ m = cc in
-          ap (valueOf us (bindingsAt room y)) (sym same) ∙ sym (bound-means us (bindingsAt room y) j) ∙ ap (meant us) (sym q ∙ o)
-      go (Term.f g′ ts) T g = absurd (no-f-v (text-once (term-word (Term.f g′ ts) g) (told-yes i h)))
-      go (Term.e m) T g = absurd (no-e-v (text-once (term-word (Term.e m) g) (told-yes i h)))
+  pub open-nowhere : (own : ℕ) → OpenAt f room y own Val.Nothing
+  open-nowhere own t T = tt
+
+  module _ {s : List ℕ} {r : Bool} {v : Value} {j : ℕ} (e : s ≡ drop (y .at) (bytesAt f y)) (h : Tells r (Stands s 1 (str (octets "v")))) (i : r ≡ true) (n : NumberAt s 4 v) (k : v ≡ Val.Is j) where
+    pub bound-there : {c : ℕ} {b : Binding} → b ≡ boundTo (bindingsAt room y) j → b ≡ Candidate c → BoundTo f room y c
+    bound-there {c} q o us u C T l =
+        let (t, m) = below-member us c l in
+        m
+        ∙ ap some (candidate-meant us c t m ∙ sym (ap (replaced us (bindingsAt room y)) (variable-is e h i n k u T) ∙ sym (bound-means us (bindingsAt room y) j) ∙ ap (meant us) (sym q ∙ o)))
+
+    pub open-there : (own : ℕ) {b : Bool} → b ≡ isOpen own (bindingsAt room y) j → b ≡ true → OpenAt f room y own (Val.Is j)
+    open-there own q o t T = (variable-is e h i n k t T, sym q ∙ o)
 
   -- the lowest of those before it, or itself
   pub bound-serves : {n c k : ℕ} (r : ℕ) → n ≡ getD room 257 0 → BoundTo f room y c → c < n → k ≡ getD room (3456 + c) 0 → LowestAt f room y k c r → CandidateAt f room y (F.Candidate r)

@@ -88,7 +88,7 @@ is-this v (Term.f g ts) e = absurd (false≢true e)
 is-this v (Term.e m) e = absurd (false≢true e)
 
 -- no candidate before the lowest that is a term means the same
-lowest-means : (us : List Term) (w : Term) (n : ℕ) → getElem? us n ≡ some w → NoneOf us n w → (i : ℕ) → i < n → meant us (Candidate i) ≡ meant us (Candidate n) → ⊥
+pub lowest-means : (us : List Term) (w : Term) (n : ℕ) → getElem? us n ≡ some w → NoneOf us n w → (i : ℕ) → i < n → meant us (Candidate i) ≡ meant us (Candidate n) → ⊥
 lowest-means us w n m low i l e =
     let (t, k) = below-member us i (omega (arith, member-below us n w m)) in
     low i l (k ∙ ap some (candidate-meant us i t k ∙ e ∙ sym (candidate-meant us n w m)))
@@ -189,6 +189,14 @@ LeftAt f room x y s t p q =
 -- the same of whatever spot the head's part starts at
 abbrev pub PartsLeft : Files → List ℕ → Spot → List ℕ → List ℕ → ℕ → ℕ → Type 0
 PartsLeft f room y s t p q = (x : Spot) → s ≡ drop (x .at) (bytesAt f x) → LeftAt f room x y s t p q
+
+-- an argument of a head b beside one of an atom a, at the offsets p and q: a frame that makes the head the atom makes them the same
+pub record Beside (f : Files) (room : List ℕ) (x y : Spot) (us : List Term) (b a : Atom) (p q : ℕ) : Type 0 where
+  pub u : Term
+  pub w : Term
+  pub here : TermAt (f .rules) (f .goal) (f .terms) (further x p) u
+  pub there : TermAt (f .rules) (f .goal) (f .terms) (further y q) w
+  pub implied : (ds : Bindings) → sameAtom (replacedAtom us ds b) (replacedAtom us (bindingsAt room y) a) ≡ true → sameTerm (replaced us ds u) (replaced us (bindingsAt room y) w) ≡ true
 
 -- the arguments of an atom stand after its name
 module _ {f : Files} {x : Spot} {s : List ℕ} (n : Name) (ts : Terms) (X : AtomAt (f .rules) (f .goal) (f .terms) x (Atom.atom n ts)) (e : s ≡ drop (x .at) (bytesAt f x)) where
@@ -318,13 +326,24 @@ module _ (f : Files) (room : List ℕ) (x y : Spot) {s t : List ℕ} (ex : s ≡
           go (Terms.cons u one) (Terms.cons w two) R R′ i =
               record { u = u; w = w; one = one; two = two; here = R; there = R′; implied = λ ds z. both-true (sameTerm (replaced us ds u) (replaced us (bindingsAt room y) w)) (sameTerms (replaceds us ds one) (replaceds us (bindingsAt room y) two)) (i ds z) }
 
+      -- they are beside each other
+      pub left-beside : (us : List Term) (b a : Atom) → Small f → CandidatesIn room (f .terms) us → AtomAt (f .rules) (f .goal) (f .terms) x b → AtomAt (f .rules) (f .goal) (f .terms) y a → Beside f room x y us b a p q
+      left-beside us b a S C X Y =
+          let l = firsts us b a (L us b a S C X Y) in
+          record {
+            u = l .u;
+            w = l .w;
+            here = term-there f x (l .u) (l .one) S ex refl (l .here);
+            there = term-there f y (l .w) (l .two) S ey refl (l .there);
+            implied = λ ds m. l .implied ds m .0;
+          }
+
       -- they differ for good
       pub left-differs : (own : ℕ) {r : Bool} {v v′ : Spot} → v ≡ further x p → v′ ≡ further y q → DiffersAt f room v v′ own r → r ≡ true → MayBe f room x y own false
       left-differs own {r} {v} {v′} i j D o us b a S C X Y z ds B =
-          let l = firsts us b a (L us b a S C X Y) in
+          let l = left-beside us b a S C X Y in
           let D′ = subst (λ (n : Spot). DiffersAt f room (further x p) n own r) j (subst (λ (n : Spot). DiffersAt f room n v′ own r) i D) in
-          refuted (sameAtom (replacedAtom us ds b) (replacedAtom us (bindingsAt room y) a)) (sameTerm (replaced us ds (l .u)) (replaced us (bindingsAt room y) (l .w))) (λ m. l .implied ds m .0)
-          (D′ us (l .u) (l .w) C (term-there f x (l .u) (l .one) S ex refl (l .here)) (term-there f y (l .w) (l .two) S ey refl (l .there)) o ds B)
+          refuted (sameAtom (replacedAtom us ds b) (replacedAtom us (bindingsAt room y) a)) (sameTerm (replaced us ds (l .u)) (replaced us (bindingsAt room y) (l .w))) (l .implied ds) (D′ us (l .u) (l .w) C (l .here) (l .there) o ds B)
 
       -- they are gone past
       pub left-next : {a b : After} {m n : ℕ} → a ≡ A.Next m → PastAt s p 64 a → b ≡ A.Next n → PastAt t q 64 b → LeftAt f room x y s t m n

@@ -8,6 +8,8 @@ use lib.Dec.{eqb}
 use lib.ListN.{length, getD, getElem?}
 use Rattle.harrop.specs.Formula.{Term}
 use Rattle.harrop.specs.Bindings.{Bindings, replaced, sameTerm}
+use Rattle.sexp.specs.declared.words.Value.{Value}
+use Rattle.sexp.specs.declared.words.Value.the-variants as Val
 use Rattle.sexp.specs.Sexp.{Stands}
 use Rattle.packet.specs.Written.{termSexp}
 use Rattle.packet.specs.Barred.{termOk}
@@ -19,7 +21,7 @@ use Rattle.equal.specs.Term.{TermAt}
 use Rattle.room.specs.Where.{Files}
 use Rattle.room.specs.declared.Source.the-variants as Source
 use Rattle.room.specs.declared.Spot.{Spot}
-use Rattle.mentions.specs.Open.{Becomes}
+use Rattle.mentions.specs.Open.{isOpen, Becomes}
 use Rattle.keys.specs.Key.{termKey}
 use Rattle.keys.specs.Keys.{CandidateKeys}
 use Rattle.unset.specs.declared.Forced.{Forced}
@@ -73,6 +75,15 @@ CandidateOf us w F.Never = NoneOf us (length us) w
 abbrev pub CandidateAt : Files → List ℕ → Spot → Forced → Type 0
 CandidateAt f room y r =
     (us : List Term) (u : Term) → CandidatesIn room (f .terms) us → CandidateKeys room us → TermAt (f .rules) (f .goal) (f .terms) y u → CandidateOf us (replaced us (bindingsAt room y) u) r
+
+-- a term is variable v of a frame, one of the first `own`, and that is unset; where none is told, nothing is said
+abbrev pub OpenAs : ℕ → Bindings → Term → Value → Type 0
+OpenAs own bs t (Val.Is v) = (t ≡ Term.v v) × (isOpen own bs v ≡ true)
+OpenAs own bs t Val.Nothing = Unit {0}
+
+-- the same of the term at a spot
+abbrev pub OpenAt : Files → List ℕ → Spot → ℕ → Value → Type 0
+OpenAt f room x own r = (t : Term) → TermAt (f .rules) (f .goal) (f .terms) x t → OpenAs own (bindingsAt room x) t r
 
 -- whether a term is variable v
 abbrev pub isVariable : ℕ → Term → Bool

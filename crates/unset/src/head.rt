@@ -1,9 +1,10 @@
 // A head beside an atom, where the head's frame is not all set: whether it may still become the atom, and which candidate the atom forces on one of its variables.
 // An argument of the head that holds an unset variable decides nothing; any other is compared as it stands.
 use crate::Forced;
-use held::holds;
 use equal::same_terms;
 use harrop::Binding;
+use held::holds;
+use held::is_open;
 use keys::term_key;
 use places::further;
 use places::plus;
@@ -22,10 +23,10 @@ ghost use mathlib.Core.Path.{_≡_};
 ghost use lib.ListN.{getD};
 ghost use Rattle.room.specs.Where.{filesOf};
 ghost use Rattle.unset.specs.Unset.{MayBe, Forces};
-ghost use Rattle.unset.specs.Head.{DiffersAt, candidateSpot, IsCandidate, LowestAt, BoundTo, CandidateAt, VariableAt};
+ghost use Rattle.unset.specs.Head.{DiffersAt, candidateSpot, IsCandidate, LowestAt, BoundTo, CandidateAt, OpenAt, VariableAt};
 
 // Whether the term at the first spot differs for good from the term at the second: it holds no unset variable, and they are not the same.
-fn differs<'a>(
+pub fn differs<'a>(
     rules: &'a [u8],
     goal: &'a [u8],
     terms: &'a [u8],
@@ -169,7 +170,7 @@ fn bound_to<'a>(rules: &'a [u8], goal: &'a [u8], terms: &'a [u8], room: &[u32], 
 }
 
 // The lowest candidate that is the term at a spot. If that is a variable bound to a candidate, only those before the candidate are asked.
-fn candidate_at<'a>(
+pub fn candidate_at<'a>(
     rules: &'a [u8],
     goal: &'a [u8],
     terms: &'a [u8],
@@ -190,6 +191,31 @@ fn candidate_at<'a>(
         return Forced::Candidate(i);
     }
     Forced::Never
+}
+
+// The variable at a spot, if it is one of the first `own` of the frame and unset.
+pub fn open_at<'a>(
+    rules: &'a [u8],
+    goal: &'a [u8],
+    terms: &'a [u8],
+    room: &[u32],
+    x: Spot,
+    own: usize,
+) -> Value
+    ensures { λ r. ⌜ OpenAt (filesOf (now (rules .entry)) (now (goal .entry)) (now (terms .entry))) (now (room .entry)) x own r ⌝ }
+{
+    let source = x.source;
+    let s = part(rules, goal, terms, source, x.at);
+    if !is_word(s, 1, b"v") {
+        return Value::Nothing;
+    }
+    let Value::Is(v) = number(s, 4) else {
+        return Value::Nothing;
+    };
+    if is_open(room, x, own, v) {
+        return Value::Is(v);
+    }
+    Value::Nothing
 }
 
 // Whether variable v stands at an offset.

@@ -1,8 +1,11 @@
 // Frames in which some variables are not set yet: what an expression asks of them, whether a head may still be an atom, and which candidate the atom forces on a variable (document 02, Three).
 mod head;
 
+pub use head::candidate_at;
+pub use head::differs;
 pub use head::forced_by;
 pub use head::may_be;
+pub use head::open_at;
 
 // What an atom forces on a variable: nothing, a candidate, or more than any candidate can give.
 pub enum Forced {

@@ -102,7 +102,7 @@ use Rattle.proving.proofs.is_fact.Reads as is-fact-reads
 use Rattle.proving.proofs.open_clause.Reads as open-clause-reads
 use Rattle.proving.proofs.body_place.Reads as body-place-reads
 use Rattle.proving.proofs.parts_of.Reads as parts-of-reads
-use Rattle.proving.proofs.settle.Reads as settle-reads
+use Rattle.proving.proofs.match_head.Reads as match-head-reads
 use Rattle.proving.proofs.unset_all.Reads as unset-all-reads
 use Rattle.proving.proofs.word_of.Reads as word-of-reads
 use Rattle.provable.proofs.provable.is_due.Reads as is-due-reads
@@ -1223,57 +1223,45 @@ prove-with-same-length-2 t c = search needs
 prove-with-returns-2 : (t : ℕ) → prove-with-lts.Need-returns-2 (may-use-reads.Asked, may-use-reads.Learnt, push-reads.Asked, push-reads.Learnt, bound-reads.Asked, bound-reads.Learnt, prove-goal-below t, prove-goal.Post) (prove-with-at t) prove-with.Post
 prove-with-returns-2 t c = laws.with-goes (c .before .before .before .before .before .before .before .before .before .before .before .before .before .before .before .before .args .i) (c .before .before .before .before .before .before .before .before .before .before .may-use .result) (c .before .before .before .before .before .before .before .before .before .before .may-use .ensures) (not-false (c .before .before .before .before .before .before .before .before .before .before .may-use .result) (c .before .before .before .before .before .before .before .before .before .if1 .left)) (c .before .before .before .bound .ensures) (laws.proving-from (c .before .before .before .before .before .before .before .push .ensures) (c .before .before .prove-goal .ensures))
 
--- src/provable.rt:336:5
-start-unset-all-requires : (t : ℕ) → start-lts.Need-unset-all-requires (unset-all-reads.Asked, unset-all-reads.Learnt, may-be-reads.Asked, may-be-reads.Learnt, settle-reads.Asked, settle-reads.Learnt, body-below t, body.Post, fill-below t, fill.Post) (start-at t) start.Post
+-- src/provable.rt:334:5
+start-unset-all-requires : (t : ℕ) → start-lts.Need-unset-all-requires (unset-all-reads.Asked, unset-all-reads.Learnt, match-head-reads.Asked, match-head-reads.Learnt, body-below t, body.Post, fill-below t, fill.Post) (start-at t) start.Post
 start-unset-all-requires t c κs = search needs
 
--- src/provable.rt:337:9
-start-may-be-requires : (t : ℕ) → start-lts.Need-may-be-requires (unset-all-reads.Asked, unset-all-reads.Learnt, may-be-reads.Asked, may-be-reads.Learnt, settle-reads.Asked, settle-reads.Learnt, body-below t, body.Post, fill-below t, fill.Post) (start-at t) start.Post
-start-may-be-requires t c κs = search needs
+-- src/provable.rt:335:9
+start-match-head-requires : (t : ℕ) → start-lts.Need-match-head-requires (unset-all-reads.Asked, unset-all-reads.Learnt, match-head-reads.Asked, match-head-reads.Learnt, body-below t, body.Post, fill-below t, fill.Post) (start-at t) start.Post
+start-match-head-requires t c κs = search needs
+
+-- src/provable.rt:336:9
+start-same-length : (t : ℕ) → start-lts.Need-same-length (unset-all-reads.Asked, unset-all-reads.Learnt, match-head-reads.Asked, match-head-reads.Learnt, body-below t, body.Post, fill-below t, fill.Post) (start-at t) start.Post
+start-same-length t c = c .before .before .before .match-head .kept .1 .1 .1 .0 ∙ c .before .before .before .before .before .before .before .unset-all .kept .0
+
+-- src/provable.rt:336:9
+start-returns : (t : ℕ) → start-lts.Need-returns (unset-all-reads.Asked, unset-all-reads.Learnt, match-head-reads.Asked, match-head-reads.Learnt, body-below t, body.Post, fill-below t, fill.Post) (start-at t) start.Post
+start-returns t c = filling.plain-settled (c .before .before .before .before .before .before .before .unset-all .ensures) (c .before .before .before .match-head .ensures) (not-true (c .before .before .before .match-head .result) (c .if1 .taken))
 
 -- src/provable.rt:338:9
-start-same-length : (t : ℕ) → start-lts.Need-same-length (unset-all-reads.Asked, unset-all-reads.Learnt, may-be-reads.Asked, may-be-reads.Learnt, settle-reads.Asked, settle-reads.Learnt, body-below t, body.Post, fill-below t, fill.Post) (start-at t) start.Post
-start-same-length t c = c .before .before .before .before .before .unset-all .kept .0
+start-body-requires : (t : ℕ) → start-lts.Need-body-requires (unset-all-reads.Asked, unset-all-reads.Learnt, match-head-reads.Asked, match-head-reads.Learnt, body-below t, body.Post, fill-below t, fill.Post) (start-at t) start.Post
+start-body-requires t c κs = (omega (arith, c .before .before .before .before .before .before .before .before .before .before .before .before .before .before .pre .0), tt)
 
--- src/provable.rt:338:9
-start-returns : (t : ℕ) → start-lts.Need-returns (unset-all-reads.Asked, unset-all-reads.Learnt, may-be-reads.Asked, may-be-reads.Learnt, settle-reads.Asked, settle-reads.Learnt, body-below t, body.Post, fill-below t, fill.Post) (start-at t) start.Post
-start-returns t c = filling.plain-head (c .before .before .before .before .before .unset-all .ensures) (c .before .may-be .ensures) (not-true (c .before .may-be .result) (c .if1 .taken))
+-- src/provable.rt:339:9
+start-same-length-2 : (t : ℕ) → start-lts.Need-same-length-2 (unset-all-reads.Asked, unset-all-reads.Learnt, match-head-reads.Asked, match-head-reads.Learnt, body-below t, body.Post, fill-below t, fill.Post) (start-at t) start.Post
+start-same-length-2 t c = c .before .before .before .body .kept .1 .1 .1 .0 ∙ (c .before .before .before .before .before .before .before .before .match-head .kept .1 .1 .1 .0 ∙ c .before .before .before .before .before .before .before .before .before .before .before .before .unset-all .kept .0)
 
--- src/provable.rt:340:9
-start-settle-requires : (t : ℕ) → start-lts.Need-settle-requires (unset-all-reads.Asked, unset-all-reads.Learnt, may-be-reads.Asked, may-be-reads.Learnt, settle-reads.Asked, settle-reads.Learnt, body-below t, body.Post, fill-below t, fill.Post) (start-at t) start.Post
-start-settle-requires t c κs = search needs
+-- src/provable.rt:339:9
+start-returns-2 : (t : ℕ) → start-lts.Need-returns-2 (unset-all-reads.Asked, unset-all-reads.Learnt, match-head-reads.Asked, match-head-reads.Learnt, body-below t, body.Post, fill-below t, fill.Post) (start-at t) start.Post
+start-returns-2 t c = filling.plain-body (c .before .before .before .before .before .before .before .before .before .before .before .before .unset-all .ensures) (c .before .before .before .before .before .before .before .before .match-head .ensures) (not-false (c .before .before .before .before .before .before .before .before .match-head .result) (c .before .before .before .before .before .if1 .left)) (c .before .before .before .body .ensures) (not-true (c .before .before .before .body .result) (c .if2 .taken))
 
--- src/provable.rt:341:9
-start-same-length-2 : (t : ℕ) → start-lts.Need-same-length-2 (unset-all-reads.Asked, unset-all-reads.Learnt, may-be-reads.Asked, may-be-reads.Learnt, settle-reads.Asked, settle-reads.Learnt, body-below t, body.Post, fill-below t, fill.Post) (start-at t) start.Post
-start-same-length-2 t c = c .before .before .before .settle .kept .1 .1 .1 .0 ∙ c .before .before .before .before .before .before .before .before .before .before .unset-all .kept .0
+-- src/provable.rt:341:5
+start-fill-requires : (t : ℕ) → start-lts.Need-fill-requires (unset-all-reads.Asked, unset-all-reads.Learnt, match-head-reads.Asked, match-head-reads.Learnt, body-below t, body.Post, fill-below t, fill.Post) (start-at t) start.Post
+start-fill-requires t c κs = (omega (arith, c .before .before .before .before .before .before .before .before .before .before .before .before .before .before .before .before .before .before .before .pre .0), tt)
 
--- src/provable.rt:341:9
-start-returns-2 : (t : ℕ) → start-lts.Need-returns-2 (unset-all-reads.Asked, unset-all-reads.Learnt, may-be-reads.Asked, may-be-reads.Learnt, settle-reads.Asked, settle-reads.Learnt, body-below t, body.Post, fill-below t, fill.Post) (start-at t) start.Post
-start-returns-2 t c = filling.plain-settled (c .before .before .before .before .before .before .before .before .before .before .unset-all .ensures) (c .before .before .before .settle .ensures) (not-true (c .before .before .before .settle .result) (c .if2 .taken))
+-- src/provable.rt:323:1
+start-same-length-3 : (t : ℕ) → start-lts.Need-same-length-3 (unset-all-reads.Asked, unset-all-reads.Learnt, match-head-reads.Asked, match-head-reads.Learnt, body-below t, body.Post, fill-below t, fill.Post) (start-at t) start.Post
+start-same-length-3 t c = c .before .before .fill .kept .1 .1 .1 .0 ∙ (c .before .before .before .before .before .before .before .body .kept .1 .1 .1 .0 ∙ (c .before .before .before .before .before .before .before .before .before .before .before .before .match-head .kept .1 .1 .1 .0 ∙ c .before .before .before .before .before .before .before .before .before .before .before .before .before .before .before .before .unset-all .kept .0))
 
--- src/provable.rt:343:9
-start-body-requires : (t : ℕ) → start-lts.Need-body-requires (unset-all-reads.Asked, unset-all-reads.Learnt, may-be-reads.Asked, may-be-reads.Learnt, settle-reads.Asked, settle-reads.Learnt, body-below t, body.Post, fill-below t, fill.Post) (start-at t) start.Post
-start-body-requires t c κs = (omega (arith, c .before .before .before .before .before .before .before .before .before .before .before .before .before .before .before .before .before .pre .0), tt)
-
--- src/provable.rt:344:9
-start-same-length-3 : (t : ℕ) → start-lts.Need-same-length-3 (unset-all-reads.Asked, unset-all-reads.Learnt, may-be-reads.Asked, may-be-reads.Learnt, settle-reads.Asked, settle-reads.Learnt, body-below t, body.Post, fill-below t, fill.Post) (start-at t) start.Post
-start-same-length-3 t c = c .before .before .before .body .kept .1 .1 .1 .0 ∙ (c .before .before .before .before .before .before .before .before .settle .kept .1 .1 .1 .0 ∙ c .before .before .before .before .before .before .before .before .before .before .before .before .before .before .before .unset-all .kept .0)
-
--- src/provable.rt:344:9
-start-returns-3 : (t : ℕ) → start-lts.Need-returns-3 (unset-all-reads.Asked, unset-all-reads.Learnt, may-be-reads.Asked, may-be-reads.Learnt, settle-reads.Asked, settle-reads.Learnt, body-below t, body.Post, fill-below t, fill.Post) (start-at t) start.Post
-start-returns-3 t c = filling.plain-body (c .before .before .before .before .before .before .before .before .before .before .before .before .before .before .before .unset-all .ensures) (c .before .before .before .before .before .before .before .before .settle .ensures) (not-false (c .before .before .before .before .before .before .before .before .settle .result) (c .before .before .before .before .before .if2 .left)) (c .before .before .before .body .ensures) (not-true (c .before .before .before .body .result) (c .if3 .taken))
-
--- src/provable.rt:346:5
-start-fill-requires : (t : ℕ) → start-lts.Need-fill-requires (unset-all-reads.Asked, unset-all-reads.Learnt, may-be-reads.Asked, may-be-reads.Learnt, settle-reads.Asked, settle-reads.Learnt, body-below t, body.Post, fill-below t, fill.Post) (start-at t) start.Post
-start-fill-requires t c κs = (omega (arith, c .before .before .before .before .before .before .before .before .before .before .before .before .before .before .before .before .before .before .before .before .before .before .pre .0), tt)
-
--- src/provable.rt:325:1
-start-same-length-4 : (t : ℕ) → start-lts.Need-same-length-4 (unset-all-reads.Asked, unset-all-reads.Learnt, may-be-reads.Asked, may-be-reads.Learnt, settle-reads.Asked, settle-reads.Learnt, body-below t, body.Post, fill-below t, fill.Post) (start-at t) start.Post
-start-same-length-4 t c = c .before .before .fill .kept .1 .1 .1 .0 ∙ (c .before .before .before .before .before .before .before .body .kept .1 .1 .1 .0 ∙ (c .before .before .before .before .before .before .before .before .before .before .before .before .settle .kept .1 .1 .1 .0 ∙ c .before .before .before .before .before .before .before .before .before .before .before .before .before .before .before .before .before .before .before .unset-all .kept .0))
-
--- src/provable.rt:325:1
-start-returns-4 : (t : ℕ) → start-lts.Need-returns-4 (unset-all-reads.Asked, unset-all-reads.Learnt, may-be-reads.Asked, may-be-reads.Learnt, settle-reads.Asked, settle-reads.Learnt, body-below t, body.Post, fill-below t, fill.Post) (start-at t) start.Post
-start-returns-4 t c = filling.plain-goes (c .before .before .before .before .before .before .before .before .before .before .before .before .before .before .before .before .before .before .before .unset-all .ensures) (c .before .before .before .before .before .before .before .before .before .before .before .before .settle .ensures) (not-false (c .before .before .before .before .before .before .before .before .before .before .before .before .settle .result) (c .before .before .before .before .before .before .before .before .before .if2 .left)) (c .before .before .before .before .before .before .before .body .ensures) (not-false (c .before .before .before .before .before .before .before .body .result) (c .before .before .before .before .if3 .left)) (c .before .before .before .before .before .before .before .body .kept .1 .1 .1 .0) (c .before .before .fill .ensures)
+-- src/provable.rt:323:1
+start-returns-3 : (t : ℕ) → start-lts.Need-returns-3 (unset-all-reads.Asked, unset-all-reads.Learnt, match-head-reads.Asked, match-head-reads.Learnt, body-below t, body.Post, fill-below t, fill.Post) (start-at t) start.Post
+start-returns-3 t c = filling.plain-goes (c .before .before .before .before .before .before .before .before .before .before .before .before .before .before .before .before .unset-all .ensures) (c .before .before .before .before .before .before .before .before .before .before .before .before .match-head .ensures) (not-false (c .before .before .before .before .before .before .before .before .before .before .before .before .match-head .result) (c .before .before .before .before .before .before .before .before .before .if1 .left)) (c .before .before .before .before .before .before .before .body .ensures) (not-false (c .before .before .before .before .before .before .before .body .result) (c .before .before .before .before .if2 .left)) (c .before .before .before .before .before .before .before .body .kept .1 .1 .1 .0) (c .before .before .fill .ensures)
 
 -- src/provable.rt:308:9
 through-returns : (t : ℕ) → through-lts.Need-returns (parts-of-reads.Asked, parts-of-reads.Learnt, start-below t, start.Post, has-head-reads.Asked, has-head-reads.Learnt, word-there-reads.Asked, word-there-reads.Learnt, fork-below t, fork.Post, each-below t, each.Post) (through-at t) through.Post
@@ -2032,10 +2020,8 @@ pub +ask+body+both+decide+each+fill+find-clause+fork+look+look-and+prove-all+pro
     (λ t. start-lts.spec (
       unset-all-reads.Asked,
       unset-all-reads.Learnt,
-      may-be-reads.Asked,
-      may-be-reads.Learnt,
-      settle-reads.Asked,
-      settle-reads.Learnt,
+      match-head-reads.Asked,
+      match-head-reads.Learnt,
       body-below t,
       body.Post,
       fill-below t,
@@ -2044,18 +2030,15 @@ pub +ask+body+both+decide+each+fill+find-clause+fork+look+look-and+prove-all+pro
     (start-at t)
     start.Post
     (start-unset-all-requires t)
-    (start-may-be-requires t)
+    (start-match-head-requires t)
     (start-same-length t)
     (start-returns t)
-    (start-settle-requires t)
+    (start-body-requires t)
     (start-same-length-2 t)
     (start-returns-2 t)
-    (start-body-requires t)
-    (start-same-length-3 t)
-    (start-returns-3 t)
     (start-fill-requires t)
-    (start-same-length-4 t)
-    (start-returns-4 t))
+    (start-same-length-3 t)
+    (start-returns-3 t))
     (λ t. through-lts.spec (
       parts-of-reads.Asked,
       parts-of-reads.Learnt,
