@@ -1,6 +1,7 @@
-//! Search cases whose names all have the same number (`names`): every rule may serve every atom and every atom falls on
-//! the same slot of the table, until they are compared in full. Some of the other searches renamed, small books of the
-//! kinds that are measured (chains, grids, suppositions, many rules, variables of a body alone), and books by chance.
+//! Search cases whose names the search's numbers do not tell apart (`names`): atoms that hold no parameter fall on the same
+//! slot of the table, at least those with as many arguments, and any rule may serve them, until they are compared in full.
+//! Some of the other searches renamed, small books of the kinds that are measured (chains, grids, suppositions, many
+//! rules, variables of a body alone), and books by chance.
 
 use crate::chance::Chance;
 use crate::expression::plain;
