@@ -1,5 +1,5 @@
 -- The first completion of a clause's frame is the first path through the clause (document 01, "Which strip the search writes": candidates by number, paths compared step by step, lower number first).
--- Crate provable's specs/First against `way` (specs/Chosen), for a clause with no `and` on the way to its head: what the search leaves there may be written without asking again.
+-- Crate proving's specs/First against `way` (specs/Chosen), for a clause with no `and` on the way to its head: what the search leaves there may be written without asking again.
 use Prim.Native.Nat.{ℕ, suc, _+_, _-_, _≤_, _<_}
 use mathlib.Core.Path.{_≡_, refl, sym, _∙_, ap, ap₂, subst}
 use mathlib.Core.Bool.{Bool, true, false, _&&_, false≢true}

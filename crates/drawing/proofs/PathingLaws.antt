@@ -1,5 +1,5 @@
 -- The use that is drawn for an atom: the first clause that serves, the way through it step by step, and the strip of its body (document 01, "Which strip the search writes").
--- Each law ends in the contract of a function of src/write.
+-- Each law ends in the contract of a function of crate writer, src/write.
 use Prim.Native.Nat.{ℕ, zero, suc, _+_, _-_, _≤_, _<_}
 use native.Mathlib.Omega.{arith}
 use native.Mathlib.Numerals.{sub-one}

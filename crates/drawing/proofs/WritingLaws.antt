@@ -1,5 +1,5 @@
 -- The first strip of a goal, by its word: what is drawn for its parts, behind its head and before its closing parenthesis, is the strip of the goal, and what its place relies on is kept (document 01, "Which strip the search writes").
--- Each law ends in the contract of a function of src/write.
+-- Each law ends in the contract of a function of crate writer, src/write.
 use Prim.Native.Nat.{ℕ, suc, _+_, _-_, _≤_, _<_}
 use native.Mathlib.Omega.{arith}
 use native.Mathlib.Numerals.{sub-one}

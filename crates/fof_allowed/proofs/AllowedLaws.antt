@@ -1,5 +1,5 @@
 -- Lines of the part are `fof` lines by TPTP's published grammar (document 02, request One): a text that is spelt in the part's tokens is never refusal 12.
--- The part is said in crate fof_part, production by production for what is read; the grammar in crate fof_grammar, production by production as it was published. Nothing here reads a text.
+-- The part is said in crate fof_part, production by production for what is read; the grammar in crate fof_productions, production by production as it was published. Nothing here reads a text.
 use Prim.Native.Nat.{ℕ}
 use mathlib.Core.Path.{_≡_, refl, sym, ap, ap₂, subst}
 use mathlib.Core.Bool.{Bool, true, false}

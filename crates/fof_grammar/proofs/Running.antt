@@ -1,5 +1,5 @@
 -- The machine while it runs: what its stack and its place in the tokens say of the whole, and that each step keeps it and comes nearer to the end.
--- From the grammar's law of a step (crate grammar, proofs/Machine); the numbers 12 and 13 are what a token pays and what `file` costs (specs/Decided).
+-- From the grammar's law of a step (crate grammar, proofs/Machine); the numbers 12 and 13 are what a token pays and what `file` costs (crate fof_productions, specs/Decided).
 use Prim.Native.Nat.{ℕ, zero, suc, _+_, _-_, _*_, _<_, _≤_}
 use mathlib.Core.Path.{_≡_, refl, sym, _∙_, ap, ap₂, subst}
 use mathlib.Core.Bool.{Bool, true, false}

@@ -1,4 +1,4 @@
-// TPTP's grammar of `fof` lines (document 02, request One), and whether a text is such lines.
+// Whether a text is `fof` lines by TPTP's grammar (document 02, request One), which is crate fof_productions'.
 mod machine;
 mod read;
 mod recognise;

@@ -1,4 +1,4 @@
-// The machine that reads by the grammar: a stack of what is due, and the tokens of the text by their numbers (specs/Coded).
+// The machine that reads by the grammar: a stack of what is due, and the tokens of the text by their numbers (crate fof_productions, specs/Coded).
 use crate::table::choice;
 use crate::table::symbol;
 use crate::table::width;

@@ -1,4 +1,4 @@
-// The tokens of a text, by their numbers (specs/Coded).
+// The tokens of a text, by their numbers (crate fof_productions, specs/Coded).
 use fof_tokens::Kind;
 use fof_tokens::Lexed;
 use fof_tokens::next_token;

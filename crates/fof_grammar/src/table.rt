@@ -1,4 +1,4 @@
-// The grammar as tables (specs/Decided, numbered by specs/Coded): which alternative the token ahead decides for a name, and the symbols of each alternative.
+// The grammar as tables (crate fof_productions, specs/Decided, numbered by specs/Coded): which alternative the token ahead decides for a name, and the symbols of each alternative.
 ghost use mathlib.Core.Path.{_≡_};
 ghost use Prim.Native.Nat.{ℕ, _<_, _≤_};
 ghost use lib.ListN.{length};

@@ -1,5 +1,5 @@
 -- The predicate of an atom: its name and how many arguments it has; and whether a clause has a head with an atom's predicate (document 02, Three: "look at the predicate's name and number of arguments before it tries candidates for a clause"). Under an `and` each of the two clauses has heads, and any of them counts.
--- That a clause without such a head serves no atom of that predicate, whichever candidates are chosen, is shown in crate provable.
+-- That a clause without such a head serves no atom of that predicate, whichever candidates are chosen, is shown in crate proving.
 use Prim.Native.Nat.{ℕ, suc, _≤_}
 use mathlib.Core.Path.{_≡_}
 use mathlib.Core.Bool.{Bool, _&&_, _||_}

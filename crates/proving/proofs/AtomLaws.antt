@@ -1,5 +1,5 @@
 -- An atom by the numbers of the rules, by the table and by the clauses at hand (document 02, Three; document 01, "Which strip the search writes": for an atom, clauses by number): what they say of it, and that what its place relies on is kept.
--- Each law ends in the contract of a function of src/provable.
+-- Each law ends in the contract of a function of crate provable, src/provable.
 use Prim.Native.Nat.{ℕ, suc, _+_, _-_, _%_, _≤_, _<_}
 use native.Mathlib.Omega.{arith}
 use mathlib.Core.Path.{_≡_, refl, sym, _∙_, ap, subst}

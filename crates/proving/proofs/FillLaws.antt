@@ -1,5 +1,5 @@
 -- A clause searched for an atom with its own variables unset at first: its body looked at, its frame filled variable by variable, and the whole clause (document 02, Three: the head decides before candidates are tried, and a goal of a body is looked at as soon as its variables are set).
--- Each law ends in the contract of a function of src/provable.
+-- Each law ends in the contract of a function of crate provable, src/provable.
 use Prim.Native.Nat.{ℕ, zero, suc, _+_, _-_, _≤_, _<_}
 use native.Mathlib.Omega.{arith}
 use mathlib.Core.Path.{_≡_, refl, sym, _∙_, ap, ap₂, subst}

@@ -1,5 +1,5 @@
 -- What a yes leaves behind the frame of a clause with no `and` on the way to its head, the numbers of the first path (specs/First), handed on from the frame to the clause that serves.
--- Each law ends in the contract of a function of src/provable.
+-- Each law ends in the contract of a function of crate provable, src/provable.
 use Prim.Native.Nat.{ℕ, _+_}
 use native.Mathlib.Omega.{arith}
 use mathlib.Core.Path.{_≡_, sym, _∙_, ap, subst}

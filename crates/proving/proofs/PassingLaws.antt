@@ -1,5 +1,5 @@
 -- Whether a path through a clause ends at an atom, with a proof of the body if there is one: by the clause's word, what the answers for its parts say of it (document 01, "When a strip fits", "Which strip the search writes").
--- Each law ends in the contract of a function of src/provable.
+-- Each law ends in the contract of a function of crate provable, src/provable.
 use Prim.Native.Nat.{ℕ, suc, _+_, _-_, _≤_, _<_}
 use native.Mathlib.Omega.{arith}
 use mathlib.Core.Path.{_≡_, refl, sym, _∙_, ap, ap₂, subst}

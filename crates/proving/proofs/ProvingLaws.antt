@@ -1,5 +1,5 @@
 -- Whether a goal has a proof, by its word: what the answers for its parts say of it, and that what its place relies on is kept (document 01, "Which strip the search writes").
--- Each law ends in the contract of a function of src/provable.
+-- Each law ends in the contract of a function of crate provable, src/provable.
 use Prim.Native.Nat.{ℕ, suc, _+_, _-_, _≤_, _<_}
 use native.Mathlib.Omega.{arith}
 use mathlib.Core.Path.{_≡_, refl, sym, _∙_, ap, subst}

@@ -1,5 +1,5 @@
 -- The first completion of a frame, which a search that says yes of a clause with no `and` on the way to its head leaves on top of the stack (document 01, "Which strip the search writes": paths compared step by step, lower number first).
--- What the atom forces is set at first, to the lowest candidate with its term; each other variable, the outermost first, gets the first candidate with which the frame can be completed so that it does. That this is the first path through the clause is shown in crate writer, proofs/LocatedLaws.
+-- What the atom forces is set at first, to the lowest candidate with its term; each other variable, the outermost first, gets the first candidate with which the frame can be completed so that it does. That this is the first path through the clause is shown in crate drawing, proofs/LocatedLaws.
 use Prim.Native.Nat.{ℕ, zero, suc, _+_, _<_}
 use mathlib.Core.Path.{_≡_}
 use mathlib.Core.Bool.{Bool, true, false}

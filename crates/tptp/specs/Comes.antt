@@ -1,5 +1,5 @@
 -- What becomes of a text in TPTP, for every text and any two buffers (document 02, One): two files, or one refusal, in the order 1, 12, 13, 6, 3, 10; the answer, and both buffers afterwards.
--- Which texts the grammar allows is crate fof_grammar's `sound`, what the lines are written as is crate fof_part's `madeOf`; that this is what document 02 asks is shown in proofs/.
+-- Which texts the grammar allows is crate fof_productions' `sound`, what the lines are written as is crate fof_part's `madeOf`; that this is what document 02 asks is shown in proofs/.
 use Prim.Native.Nat.{ℕ}
 use mathlib.Core.Path.{_≡_}
 use mathlib.Core.Bool.{Bool}

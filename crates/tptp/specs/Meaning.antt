@@ -1,5 +1,5 @@
 -- What each answer means, line by line of document 02 (One), without the tests: nothing here knows how the answer is found.
--- Sound texts are crate fof_grammar's; how lines are spelt in tokens is crate fof_part's; which lines are in the part, and what they become, is crate fof_truth's.
+-- Sound texts are crate fof_productions'; how lines are spelt in tokens is crate fof_part's; which lines are in the part, and what they become, is crate fof_truth's.
 use Prim.Native.Nat.{ℕ, _<_, _≤_}
 use mathlib.Core.Path.{_≡_}
 use mathlib.Core.List.{List}

@@ -1,4 +1,4 @@
--- What is said of a formula in a frame in which some variables are not set yet (document 02, Three: the head decides before candidates are tried). That nothing said here depends on what the unset variables become is shown in crate provable.
+-- What is said of a formula in a frame in which some variables are not set yet (document 02, Three: the head decides before candidates are tried). That nothing said here depends on what the unset variables become is shown in crate proving.
 use Prim.Native.Nat.{ℕ, _+_, _≤_, _<_}
 use mathlib.Core.Path.{_≡_}
 use mathlib.Core.Bool.{Bool, true, false}

@@ -1,4 +1,4 @@
-// Frames in which some variables are not set yet: what an expression asks of them, whether a head may still be an atom, and which candidate the atom forces on a variable (document 02, Three).
+// Frames in which some variables are not set yet: whether a head may still be an atom, and which candidate the atom forces on a variable (document 02, Three).
 mod head;
 
 pub use head::candidate_at;
