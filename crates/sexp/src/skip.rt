@@ -15,20 +15,8 @@ pub enum After {
     Nothing,
 }
 
-// Past the string at an offset, with its display hint if it has one: past an expression that does not nest.
-fn past_string(s: &[u8], at: usize) -> After
-    ensures { λ r. ⌜ PastAt (now (s .entry)) at 0 r ⌝ }
-{
-    if s.len() <= at {
-        return After::Nothing;
-    }
-    match text(s, at, true) {
-        Reading::Stuck(_) => After::Nothing,
-        Reading::Spans { to, .. } => After::Next(to),
-    }
-}
-
-// The end of the string at an offset, or an offset past the end of the bytes where none stands. Nearly every length has one digit, and is then read at once.
+// The end of the string at an offset, with its display hint if it has one, or an offset past the end of the bytes where none stands. Nearly every length has
+// one digit, and is then read at once.
 fn string_end(s: &[u8], at: usize) -> usize
     requires { ⌜ at < length (now s) ⌝ }
     ensures { λ r. ⌜ StringEnd (now (s .entry)) at r ⌝ }
@@ -36,10 +24,24 @@ fn string_end(s: &[u8], at: usize) -> usize
     if 1 < s.len() - at && s[at + 1] == 58 && digit(s[at]) {
         return at + 2 + (s[at] - 48) as usize;
     }
-    match past_string(s, at) {
-        After::Nothing => 0xffff_ffff_ffff_ffff,
-        After::Next(n) => n,
+    match text(s, at, true) {
+        Reading::Stuck(_) => 0xffff_ffff_ffff_ffff,
+        Reading::Spans { to, .. } => to,
     }
+}
+
+// Past the string at an offset: past an expression that does not nest.
+fn past_string(s: &[u8], at: usize) -> After
+    ensures { λ r. ⌜ PastAt (now (s .entry)) at 0 r ⌝ }
+{
+    if s.len() <= at {
+        return After::Nothing;
+    }
+    let n = string_end(s, at);
+    if s.len() < n {
+        return After::Nothing;
+    }
+    After::Next(n)
 }
 
 // Past the expression at an offset that nests at most `nest`.

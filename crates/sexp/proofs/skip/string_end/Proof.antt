@@ -1,11 +1,10 @@
--- `string_end` meets its contract: a length of one digit is a law of SkipLaws, and any other string is what `past_string` passes.
+-- `string_end` meets its contract: a length of one digit is a law of SkipLaws, and any other string is what `text` reads, with hints.
 use Prim.Native.Nat.{_+_}
 use mathlib.Core.Path.{sym, _∙_}
 use lib.ListN.{getD}
 use borrow.Author.Tests.{eqb-true}
-use Rattle.sexp.proofs.AnswerLaws.{past-next, past-nothing}
 use Rattle.sexp.proofs.DecimalLaws.{digit-low, digit-high}
-use Rattle.sexp.proofs.SkipLaws.{string-short, string-next, string-none}
+use Rattle.sexp.proofs.SkipLaws.{past-spans, past-stuck, string-short, string-next, string-none}
 use native.Mathlib.Omega.{arith}
 use borrow.Author.Needs.{needs}
 use Rattle.sexp.proofs.skip.string_end.Statement.{statement}
@@ -44,20 +43,20 @@ add-result-2 c = let x = c .before .before .before .before .before .before .befo
 returns : tie.Need-returns
 returns c = let x = c .before .before .before .before .before .before .before .before .args in string-short (x .s .now) (x .at) (omega arith) (omega arith) (sym (c .before .before .digit .ensures) ∙ c .before .if3 .taken) (eqb-true (getD (x .s .now) (x .at + 1) 0) 58 (c .before .before .before .before .if2 .taken))
 
-past-string-requires : tie.Need-past-string-requires
-past-string-requires c κs = search needs
+text-requires : tie.Need-text-requires
+text-requires c κs = search needs
 
 enum-told : tie.Need-enum-told
 enum-told c = search needs
 
-enum-known-n : tie.Need-enum-known-n
-enum-known-n c = search needs
+enum-known-to : tie.Need-enum-known-to
+enum-known-to c = search needs
 
 returns-2 : tie.Need-returns-2
-returns-2 c = let x = c .before .before .before .before .before .args in string-none (x .s .now) (x .at) (omega arith) (past-nothing (c .enum-told .given .1) (c .before .before .past-string .ensures))
+returns-2 c = let x = c .before .before .before .before .before .args in string-none (x .s .now) (x .at) (omega arith) (past-stuck (x .s .now) (x .at) (c .enum-told .given .0 .0) (c .before .before .text .result) (c .enum-told .given .1) (c .before .before .text .ensures))
 
 returns-3 : tie.Need-returns-3
-returns-3 c = let x = c .before .before .before .before .before .before .args in string-next (x .s .now) (x .at) (omega arith) (c .before .n .given .0 .0) (past-next (c .before .n .given .1) (c .before .before .before .past-string .ensures))
+returns-3 c = let x = c .before .before .before .before .before .before .args in let r = c .before .to .given in string-next (x .s .now) (x .at) (omega arith) (r .0 .1 .0) (past-spans (x .s .now) (x .at) (r .0 .0) (r .0 .1 .0) (c .before .before .before .text .result) (r .1) (c .before .before .before .text .ensures))
 
 pub string-end-spec : {M : Type 1} → statement M
 string-end-spec =
@@ -74,8 +73,8 @@ string-end-spec =
     cast-result
     add-result-2
     returns
-    past-string-requires
+    text-requires
     enum-told
-    enum-known-n
+    enum-known-to
     returns-2
     returns-3)
