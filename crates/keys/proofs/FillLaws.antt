@@ -22,7 +22,8 @@ use Rattle.room.specs.declared.Spot.{Spot}
 use Rattle.equal.proofs.TermLaws.{closed-stays}
 use Rattle.keys.specs.Key.{termKey, clauseKey}
 use Rattle.keys.specs.Walk.{keptWord, TermAtKey, ClauseAt}
-use Rattle.keys.specs.Keys.{keyWord, keysEnd, Within, CandidatesDone, RulesDone, CandidatesKept, RulesKept, KeysFilled}
+use Rattle.keys.specs.Chains.{linkWord, chainsEnd, listedRules, Chained, Within, ChainsFilled}
+use Rattle.keys.specs.Keys.{keyWord, keysEnd, CandidatesDone, RulesDone, CandidatesKept, RulesKept, KeysFilled}
 use Rattle.keys.proofs.WalkLaws.{keyed-none}
 
 -- one word more, between two
@@ -84,26 +85,33 @@ rules-more before rules {now} {after} {i} a k H l e G f = subst (λ (r : List �
             let made = G d 0 (subst (λ (z : ℕ). Stands rules z (clauseSexp d)) (sym at) g) n n o in
             ap (λ (z : ℕ). getD (set now (3200 + i) k) (3200 + z) 0) ji ∙ getD-set-same now (3200 + i) k 0 (omega (arith, H .within .long, l, r)) ∙ made
 
--- both tables
-pub keys-filled : (before mid after rules terms : List ℕ) → CandidatesKept before mid terms → RulesKept mid after rules → KeysFilled before after rules terms
-keys-filled before mid after rules terms C D = record {
+-- both tables, and the chains
+pub keys-filled : (before mid kept after rules terms : List ℕ) → CandidatesKept before mid terms → RulesKept mid kept rules → ChainsFilled kept after → KeysFilled before after rules terms
+keys-filled before mid kept after rules terms C D F = record {
   within = record {
-    long = D .within .long ∙ C .within .long;
-    below = λ j l. D .within .below j l ∙ C .within .below j (omega (arith, l));
-    above = λ j l. D .within .above j (omega (arith, l)) ∙ C .within .above j l;
+    long = F .within .long ∙ D .within .long ∙ C .within .long;
+    below = λ j l. F .within .below j (omega (arith, l)) ∙ D .within .below j l ∙ C .within .below j (omega (arith, l));
+    above = λ j l. F .within .above j l ∙ D .within .above j (omega (arith, l)) ∙ C .within .above j (omega (arith, l));
   };
-  right = λ l goal ds cs B. record { rules = rule l goal ds cs B; candidates = candidate l goal ds cs B };
+  right = λ l goal ds cs B. record { rules = rule l goal ds cs B; candidates = candidate l goal ds cs B; chains = chains l goal ds cs B };
 }
   where
     rule : words ≤ length before → (goal : List ℕ) (ds : List (Clause Plain)) (cs : List Term) → Booked (filesOf rules goal terms) before ds cs → (k : ℕ) (d : Clause Plain) → getElem? ds k ≡ some d → getD after (keyWord k) 0 ≡ clauseKey d
     rule l goal ds cs B k d e =
         let m = member-below ds k d e in
-        D .right (omega (arith, C .within .long, l)) k (omega (arith, m, B .rules .few, B .rules .counted, C .within .below 0 (omega arith))) d
+        F .within .below (3200 + k) (omega (arith, m, B .rules .few))
+        ∙ D .right (omega (arith, C .within .long, l)) k (omega (arith, m, B .rules .few, B .rules .counted, C .within .below 0 (omega arith))) d
         (subst (λ (z : ℕ). Stands rules z (clauseSexp d)) (sym (C .within .below (1 + k) (omega (arith, m, B .rules .few)))) (B .rules .starts k d e))
         (B .scoped k d e) (B .shallow k d e)
 
     candidate : words ≤ length before → (goal : List ℕ) (ds : List (Clause Plain)) (cs : List Term) → Booked (filesOf rules goal terms) before ds cs → (i : ℕ) (t : Term) → getElem? cs i ≡ some t → getD after (keptWord i) 0 ≡ termKey t
     candidate l goal ds cs B i t e =
         let m = member-below cs i t e in
-        D .within .above (3456 + i) (omega arith)
+        F .within .below (3456 + i) (omega (arith, m, B .candidates .few))
+        ∙ D .within .above (3456 + i) (omega arith)
         ∙ C .right (omega (arith, l)) i (omega (arith, m, B .candidates .few, B .candidates .counted)) t (B .candidates .starts i t e) (B .candidates .closed i t e) (B .candidates .shallow i t e)
+
+    chains : words ≤ length before → (goal : List ℕ) (ds : List (Clause Plain)) (cs : List Term) → Booked (filesOf rules goal terms) before ds cs → Chained after 0 (length ds)
+    chains l goal ds cs B =
+        let n = D .within .below 0 (omega arith) ∙ C .within .below 0 (omega arith) in
+        subst (Chained after 0) {x = listedRules kept} {y = length ds} (omega (arith, n, B .rules .few, B .rules .counted)) (F .right (omega (arith, D .within .long, C .within .long, l)))

@@ -3,4 +3,5 @@ pub mod WalkLaws
 pub mod AtomLaws
 pub mod RuleLaws
 pub mod FillLaws
+pub mod ChainLaws
 pub mod NextLaws

@@ -1,6 +1,6 @@
--- Laws of the next clause that may serve an atom: a rule that is passed over has another number, and clause after clause is passed over until one may serve it (document 02, Three).
-use Prim.Native.Nat.{ℕ, _+_, _≤_, _<_}
-use mathlib.Core.Path.{_≡_, refl, sym, subst}
+-- Laws of the next clause that may serve an atom: the rules with one number are found along its chain, none of them is passed over, and one that is has neither of the atom's numbers, nor 0 (document 02, Three).
+use Prim.Native.Nat.{ℕ, _+_, _-_, _≤_, _<_, min}
+use mathlib.Core.Path.{_≡_, refl, sym, _∙_, ap, subst}
 use mathlib.Core.Bool.{Bool, true, false, false≢true}
 use mathlib.Core.List.{List}
 use native.Mathlib.Omega.{arith}
@@ -8,43 +8,113 @@ use lib.Dec.{eqb}
 use lib.ListN.{getD}
 use borrow.Author.Tests.{eqb-true, eqb-false}
 use Rattle.room.specs.Layout.{rulesWord}
-use Rattle.keys.specs.Keys.{keyWord, Differs, MayServe, Barred, NextClause}
+use Rattle.keys.specs.Chains.{chainOf, numberAt, chainAt, linkAt, firstAt, Chained, BeginsChain, HasNumber, NextWith}
+use Rattle.keys.specs.Keys.{NextClause}
+use Rattle.keys.proofs.ChainLaws.{chain-small}
 
--- by the tests of a number
-pub serves-always : (predicate key x : ℕ) → MayServe predicate key x true
-serves-always predicate key x e = absurd (false≢true (sym e))
+-- where a chain is begun
+module _ (room : List ℕ) (x from : ℕ) where
+  pub begin-first : {b r : ℕ} → b ≡ chainOf x → r ≡ getD room (4480 + b) 0 → BeginsChain room x from r
+  begin-first {b} {r} e f n H l =
+      let g : r ≡ firstAt room (chainOf x) = f ∙ ap (λ (c : ℕ). firstAt room c) e in
+      record {
+        reached = λ j a c d. let h = ap (λ (c : ℕ). firstAt room c) d in omega (arith, g, h, H .first j (omega arith) c);
+        alike = λ c. ap (λ (j : ℕ). chainAt room j) g ∙ H .starts (chainOf x) (chain-small x) (omega (arith, g, c));
+      }
 
-pub serves-tested : (predicate key x : ℕ) → (x ≡ 0 → ⊥) → (x ≡ predicate → ⊥) → MayServe predicate key x (eqb x key)
-serves-tested predicate key x z p e = record { some = z; other = p; own = eqb-false x key e }
+  pub begin-after : {b c y r : ℕ} (k : ℕ) → b ≡ chainOf x → (from ≡ 0 → ⊥) → k ≡ from - 1 → y ≡ getD room (3200 + k) 0 → c ≡ chainOf y → c ≡ b → r ≡ getD room (4224 + k) 0 → BeginsChain room x from r
+  begin-after {b} {c} {y} {r} k e z q Y C f g n H l =
+      let same : chainAt room k ≡ chainOf x = ap chainOf (sym Y) ∙ sym C ∙ f ∙ e in
+      record {
+        reached = λ j a b d. omega (arith, g, H .linked k j (omega arith) (omega (arith, z, q, a)) b (d ∙ sym same));
+        alike = λ a. ap (λ (j : ℕ). chainAt room j) g ∙ H .alike k (omega arith) (omega (arith, z, q, l)) (omega (arith, g, a)) ∙ same;
+      }
 
--- the clauses from one on up to another are rules that cannot serve the atom
-pub record Passed (room : List ℕ) (predicate key from k : ℕ) : Type 0 where
-  pub upto : from ≤ k
-  pub rules : (j : ℕ) → from ≤ j → j < k → j < getD room rulesWord 0
-  pub barred : (j : ℕ) → from ≤ j → j < k → Barred room predicate key j
+  -- a rule with the number
+  pub number-before : (r : ℕ) → r < from → HasNumber room x from r false
+  number-before r l = record { since = λ e. absurd (false≢true e); other = λ e a. absurd (omega arith) }
 
-module _ (room : List ℕ) (predicate key from : ℕ) where
-  pub passed-none : Passed room predicate key from from
-  passed-none = record { upto = omega arith; rules = λ j l m. absurd (omega arith); barred = λ j l m. absurd (omega arith) }
+  pub number-tested : {y : ℕ} (r : ℕ) → from ≤ r → y ≡ numberAt room r → HasNumber room x from r (eqb y x)
+  number-tested {y} r l e = record { since = λ _. l; other = λ f a g. eqb-false y x f (e ∙ g) }
 
-  pub passed-more : (k : ℕ) {n x : ℕ} {r : Bool} → Passed room predicate key from k → n ≡ getD room rulesWord 0 → k < n → x ≡ getD room (keyWord k) 0 → MayServe predicate key x r → r ≡ false → Passed room predicate key from (k + 1)
-  passed-more k P c l e serves q = record {
-    upto = omega (arith, P .upto);
-    rules = λ j a b. rule j a b (eqb j k) refl;
-    barred = λ j a b. bar j a b (eqb j k) refl;
+  -- along a chain: no rule with the number is left out
+  pub record Walk (m r : ℕ) : Type 0 where
+    pub reached : (j : ℕ) → from ≤ j → j < m → numberAt room j ≡ x → r ≤ j
+    pub alike : r < m → chainAt room r ≡ chainOf x
+
+  abbrev pub Walked : ℕ → ℕ → Type 0
+  Walked n r = (m : ℕ) → Chained room 0 m → n ≤ m → from ≤ m → Walk m r
+
+  pub walk-start : (n r : ℕ) → BeginsChain room x from r → Walked n r
+  walk-start n r B m H l o = let b = B m H o in record { reached = λ j a c d. b .reached j a c (ap chainOf d); alike = b .alike }
+
+  pub walk-found : {b : Bool} (n r : ℕ) → Walked n r → r < n → HasNumber room x from r b → b ≡ true → NextWith room x from n r
+  walk-found n r W l N e = record {
+    few = omega arith;
+    further = λ _. N .since e;
+    other = λ m H a j c d f. let g = W m H a (omega (arith, N .since e, l, a)) .reached j c (omega (arith, d, l, a)) f in absurd (omega (arith, g, d));
   }
+
+  pub walk-end : (n r : ℕ) → Walked n r → n ≤ r → NextWith room x from n n
+  walk-end n r W l = record {
+    few = omega arith;
+    further = λ a. a;
+    other = λ m H a j c d f. let g = W m H a (omega (arith, c, d, a)) .reached j c (omega (arith, d, a)) f in absurd (omega (arith, g, d, l));
+  }
+
+  pub walk-back : (n r : ℕ) {s : ℕ} → Walked n r → r < n → s ≡ getD room (4224 + r) 0 → s ≤ r → NextWith room x from n n
+  walk-back n r W l e u = record {
+    few = omega arith;
+    further = λ a. a;
+    other = λ m H a j c d f. absurd (omega (arith, e, u, H .ahead r (omega arith) (omega (arith, l, a))));
+  }
+
+  pub walk-next : {b : Bool} (n r : ℕ) {s : ℕ} → Walked n r → r < n → HasNumber room x from r b → b ≡ false → s ≡ getD room (4224 + r) 0 → Walked n s
+  walk-next n r {s} W l N e q m H a o = subst (Walk m) (sym q) (record {
+    reached = λ j c d f. go j c d f (eqb r j) refl;
+    alike = λ c. H .alike r (omega arith) (omega (arith, l, a)) c ∙ same;
+  })
     where
-      rule : (j : ℕ) → from ≤ j → j < k + 1 → (b : Bool) → eqb j k ≡ b → j < getD room rulesWord 0
-      rule j a b true z = omega (arith, eqb-true j k z)
-      rule j a b false z = let y = eqb-false j k z in P .rules j a (omega arith)
+      same : chainAt room r ≡ chainOf x
+      same = W m H a o .alike (omega (arith, l, a))
 
-      bar : (j : ℕ) → from ≤ j → j < k + 1 → (b : Bool) → eqb j k ≡ b → Barred room predicate key j
-      bar j a b true z = subst (Barred room predicate key) (sym (eqb-true j k z)) (subst (Differs predicate key) e (serves q))
-      bar j a b false z = let y = eqb-false j k z in P .barred j a (omega arith)
+      go : (j : ℕ) → from ≤ j → j < m → numberAt room j ≡ x → (z : Bool) → eqb r j ≡ z → linkAt room r ≤ j
+      go j c d f true z = let i = eqb-true r j z in absurd (N .other e (omega (arith, i, c)) (ap (λ (k : ℕ). numberAt room k) i ∙ f))
+      go j c d f false z =
+          let i = eqb-false r j z in
+          let g = W m H a o .reached j c d f in
+          H .linked r j (omega arith) (omega (arith, i, g)) d (ap chainOf f ∙ sym same)
 
-  -- the first that is not passed over, and where all are
-  pub next-here : (n k : ℕ) → Passed room predicate key from k → k < n → NextClause room predicate key from n k
-  next-here n k P l = record { few = omega arith; further = λ h. P .upto; rules = P .rules; barred = P .barred }
+-- the next clause that may serve an atom
+module _ (room : List ℕ) (predicate key from n : ℕ) where
+  pub next-past : n ≤ from → NextClause room predicate key from n n
+  next-past l = record {
+    few = omega arith;
+    further = λ a. a;
+    right = λ _. record { rules = λ j a b. absurd (omega arith); barred = λ j a b. absurd (omega arith) };
+  }
 
-  pub next-none : (n k : ℕ) → Passed room predicate key from k → n ≤ k → NextClause room predicate key from n n
-  next-none n k P l = record { few = omega arith; further = λ h. h; rules = λ j a b. P .rules j a (omega arith); barred = λ j a b. P .barred j a (omega arith) }
+  pub next-supposed : from < n → NextClause room predicate key from n from
+  next-supposed l = record {
+    few = omega arith;
+    further = λ _. omega arith;
+    right = λ _. record { rules = λ j a b. absurd (omega arith); barred = λ j a b. absurd (omega arith) };
+  }
+
+  pub next-rule : {rules most a b : ℕ} (r : ℕ) → from < n → rules ≡ getD room rulesWord 0 → from < rules → most ≡ min rules n → NextWith room key from most a → NextWith room predicate from a b → NextWith room 0 from b r
+      → NextClause room predicate key from n r
+  next-rule {rules} {most} {a} {b} r l e h m A B C =
+      let further = C .further (B .further (A .further (omega (arith, l, h, m)))) in
+      record {
+        few = omega (arith, A .few, B .few, C .few, m);
+        further = λ _. further;
+        right = λ H. record {
+          rules = λ j u v. omega (arith, A .few, B .few, C .few, m, e, v);
+          barred = λ j u v.
+              record {
+                some = C .other (getD room rulesWord 0) H (omega (arith, A .few, B .few, m, e)) j u v;
+                other = B .other (getD room rulesWord 0) H (omega (arith, A .few, m, e)) j u (omega (arith, C .few, v));
+                own = A .other (getD room rulesWord 0) H (omega (arith, m, e)) j u (omega (arith, B .few, C .few, v));
+              };
+        };
+      }

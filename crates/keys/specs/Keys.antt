@@ -1,4 +1,4 @@
--- The numbers at spots of the files, and the tables of them in the room (document 02, Three): those of rules in 256 words, those of candidates in the 256 words after them.
+-- The numbers at spots of the files, and the tables of them in the room (document 02, Three): those of rules in 256 words, those of candidates in the 256 words after them, and the chains of rules.
 use Prim.Native.Nat.{ℕ, _+_, _≤_, _<_, min}
 use mathlib.Core.Path.{_≡_}
 use mathlib.Core.Bool.{Bool, true, false}
@@ -20,6 +20,7 @@ use Rattle.room.specs.declared.Spot.{Spot}
 use Rattle.heads.specs.Predicate.{AtomThere, ClauseThere}
 use Rattle.keys.specs.Key.{termKey, atomKey, predicateKey, clauseKey}
 use Rattle.keys.specs.Walk.{keptWord}
+use Rattle.keys.specs.Chains.{chainsEnd, Chained, Within}
 
 -- where the number of rule k is kept, and the first word after both tables
 abbrev pub keyWord : ℕ → ℕ
@@ -38,6 +39,7 @@ RuleKeys room ds = (k : ℕ) (d : Clause Plain) → getElem? ds k ≡ some d →
 pub record KeysIn (room : List ℕ) (ds : List (Clause Plain)) (cs : List Term) : Type 0 where
   pub rules : RuleKeys room ds
   pub candidates : CandidateKeys room cs
+  pub chains : Chained room 0 (length ds)
 
 -- the answer is the number of the term, of the atom, of the atom's predicate, or of the clause at a spot
 abbrev pub TermKeyAt : Files → List ℕ → Spot → ℕ → Type 0
@@ -53,12 +55,6 @@ PredicateKeyAt f x r = (a : Atom) → AtomThere f x a → r ≡ predicateKey a
 
 abbrev pub RuleKeyAt : Files → Spot → ℕ → Type 0
 RuleKeyAt f x r = (d : Clause Plain) (n : ℕ) → ClauseThere f x d → clauseOk n d ≡ true → r ≡ clauseKey d
-
--- of the room nothing but the words from one up to another is written
-pub record Within (before after : List ℕ) (from to : ℕ) : Type 0 where
-  pub long : length after ≡ length before
-  pub below : (j : ℕ) → j < from → getD after j 0 ≡ getD before j 0
-  pub above : (j : ℕ) → to ≤ j → getD after j 0 ≡ getD before j 0
 
 -- the numbers of the first n candidates, and of the first n rules, are in the room
 pub record CandidatesDone (before after terms : List ℕ) (n : ℕ) : Type 0 where
@@ -77,9 +73,9 @@ CandidatesKept before after terms = CandidatesDone before after terms (min (getD
 abbrev pub RulesKept : List ℕ → List ℕ → List ℕ → Type 0
 RulesKept before after rules = RulesDone before after rules (min (getD before rulesWord 0) 256)
 
--- both tables filled: nothing else of the room is written, and for a packet whose rules and candidates are in the room's tables they are right
+-- both tables and the chains filled: nothing else of the room is written, and for a packet whose rules and candidates are in the room's tables they are right
 pub record KeysFilled (before after rules terms : List ℕ) : Type 0 where
-  pub within : Within before after (keyWord 0) keysEnd
+  pub within : Within before after (keyWord 0) chainsEnd
   pub right : words ≤ length before → (goal : List ℕ) (ds : List (Clause Plain)) (cs : List Term) → Booked (filesOf rules goal terms) before ds cs → KeysIn after ds cs
 
 -- a rule with number x cannot serve an atom with these numbers, of its predicate and of its own: its number is none of them, and not 0
@@ -88,16 +84,17 @@ pub record Differs (predicate key x : ℕ) : Type 0 where
   pub other : x ≡ predicate → ⊥
   pub own : x ≡ key → ⊥
 
-abbrev pub MayServe : ℕ → ℕ → ℕ → Bool → Type 0
-MayServe predicate key x r = r ≡ false → Differs predicate key x
-
 -- so rule k, by the room
 abbrev pub Barred : List ℕ → ℕ → ℕ → ℕ → Type 0
 Barred room predicate key k = Differs predicate key (getD room (keyWord k) 0)
 
--- the first clause from one on, of n, that may serve it: those before are rules that cannot
+-- the clauses from one on up to another are rules that cannot serve it
+pub record PassedOver (room : List ℕ) (predicate key from r : ℕ) : Type 0 where
+  pub rules : (j : ℕ) → from ≤ j → j < r → j < getD room rulesWord 0
+  pub barred : (j : ℕ) → from ≤ j → j < r → Barred room predicate key j
+
+-- the first clause from one on, of n, that may serve it: where the chains are right for as many rules as the room says, those before are rules that cannot
 pub record NextClause (room : List ℕ) (predicate key from n r : ℕ) : Type 0 where
   pub few : r ≤ n
   pub further : from ≤ n → from ≤ r
-  pub rules : (j : ℕ) → from ≤ j → j < r → j < getD room rulesWord 0
-  pub barred : (j : ℕ) → from ≤ j → j < r → Barred room predicate key j
+  pub right : Chained room 0 (getD room rulesWord 0) → PassedOver room predicate key from r

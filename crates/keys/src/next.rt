@@ -1,34 +1,75 @@
 // Which clause at hand comes next that may serve an atom, by the numbers that the room keeps for rules (document 02, Three: a rule that cannot match is not visited).
+// A rule may serve it whose number is 0, that of its predicate or its own; the rules with one number are found along the chain of it.
+use crate::chain::chain_of;
 use crate::term::word;
-ghost use Rattle.keys.specs.Keys.{MayServe, NextClause};
+ghost use mathlib.Core.Path.{_≡_};
+ghost use Prim.Native.Nat.{min};
+ghost use Rattle.keys.specs.Chains.{BeginsChain, HasNumber, NextWith};
+ghost use Rattle.keys.specs.Keys.{NextClause};
 
-// Whether a rule with number x may serve an atom with these numbers, of its predicate and of its own; a rule with number 0 may always.
-fn may_serve(x: u32, predicate: u32, key: u32) -> bool
-    ensures { λ r. ⌜ MayServe predicate key x r ⌝ }
+// A rule in the chain of a number with none of that chain between it and a rule: the one after the rule just before, if that is in the chain, else the chain's first.
+fn begin(room: &[u32], x: u32, from: u32) -> u32
+    ensures { λ r. ⌜ BeginsChain (now (room .entry)) x from r ⌝ }
 {
-    if x == 0 {
-        return true;
+    let b = chain_of(x);
+    if from == 0 {
+        return word(room, 4480 + b);
     }
-    if x == predicate {
-        return true;
+    let k = (from - 1) as usize;
+    if chain_of(word(room, 3200 + k)) == b {
+        return word(room, 4224 + k);
     }
-    x == key
+    word(room, 4480 + b)
 }
 
-// The first clause from one on, of n, that may serve it: a rule by its number, and each that is supposed. n if there is none.
+// Whether rule r is not before one and has a number.
+fn has_number(room: &[u32], x: u32, from: u32, r: u32) -> bool
+    ensures { λ b. ⌜ HasNumber (now (room .entry)) x from r b ⌝ }
+{
+    if r < from {
+        return false;
+    }
+    word(room, 3200 + r as usize) == x
+}
+
+// The first rule from one on, of n, that has a number; n if there is none. Where the chains are right each next one has a higher number.
+fn next_with(room: &[u32], x: u32, from: u32, n: u32) -> u32
+    ensures { λ r. ⌜ NextWith (now (room .entry)) x from n r ⌝ }
+{
+    let mut r = begin(room, x, from);
+    while r < n {
+        if has_number(room, x, from, r) {
+            return r;
+        }
+        let next = word(room, 4224 + r as usize);
+        if next <= r {
+            return n;
+        }
+        r = next;
+    }
+    n
+}
+
+// The lesser of two.
+fn lesser(x: u32, n: usize) -> u32
+    ensures { λ r. ⌜ r ≡ min x n ⌝ }
+{
+    if n < x as usize { n as u32 } else { x }
+}
+
+// The first clause from one on, of n, that may serve an atom with these numbers, of its predicate and of its own: a rule by its number, and each that is supposed. n if there is none.
 pub fn next_clause(room: &[u32], predicate: u32, key: u32, from: usize, n: usize) -> usize
     ensures { λ r. ⌜ NextClause (now (room .entry)) predicate key from n r ⌝ }
 {
-    let rules = word(room, 0) as usize;
-    let mut k = from;
-    while k < n {
-        if rules <= k {
-            return k;
-        }
-        if may_serve(word(room, 3200 + k), predicate, key) {
-            return k;
-        }
-        k += 1;
+    if n <= from {
+        return n;
     }
-    n
+    let rules = word(room, 0);
+    if rules as usize <= from {
+        return from;
+    }
+    let f = from as u32;
+    let a = next_with(room, key, f, lesser(rules, n));
+    let b = next_with(room, predicate, f, a);
+    next_with(room, 0, f, b) as usize
 }

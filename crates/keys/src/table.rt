@@ -1,4 +1,5 @@
 // The numbers of all rules and candidates, kept in the room: those of rules in the 256 words from 3200 on, those of candidates in the 256 words after them.
+use crate::chain::fill_chains;
 use crate::rule::clause_key;
 use crate::rule::nowhere;
 use crate::term::key_at;
@@ -9,14 +10,14 @@ ghost use lib.ListN.{set};
 ghost use Rattle.keys.specs.Keys.{CandidatesKept, RulesKept, KeysFilled};
 
 // How many of a table are kept: at most 256.
-fn most(n: u32) -> usize
+pub(crate) fn most(n: u32) -> usize
     ensures { λ r. ⌜ r ≡ min n 256 ⌝ }
 {
     if n < 256 { n as usize } else { 256 }
 }
 
 // A word written, if there is room.
-fn put(room: &mut [u32], i: usize, w: u32)
+pub(crate) fn put(room: &mut [u32], i: usize, w: u32)
     ensures { λ r. ⌜ now (room .exit) ≡ set (now (room .entry)) i w ⌝ }
 {
     if i < room.len() {
@@ -52,10 +53,11 @@ fn keep_rules(rules: &[u8], room: &mut [u32])
     }
 }
 
-// The numbers of candidates and of rules, in the room's tables.
+// The numbers of candidates and of rules, in the room's tables, and the chains of rules.
 pub fn fill_keys(rules: &[u8], terms: &[u8], room: &mut [u32])
     ensures { λ r. ⌜ KeysFilled (now (room .entry)) (now (room .exit)) (now (rules .entry)) (now (terms .entry)) ⌝ }
 {
     keep_candidates(terms, room);
     keep_rules(rules, room);
+    fill_chains(room);
 }

@@ -15,7 +15,7 @@ use Rattle.room.specs.Where.{filesOf, Booked}
 use Rattle.room.specs.declared.Source.the-variants as Source
 use Rattle.room.specs.declared.Spot.{Spot}
 use Rattle.keys.specs.Key.{predicateKey}
-use Rattle.keys.specs.Keys.{Within}
+use Rattle.keys.specs.Chains.{Within}
 use Rattle.narrow.specs.declared.rule.Head.{Head}
 use Rattle.narrow.specs.declared.rule.Head.the-variants as H
 

@@ -50,7 +50,7 @@ set-out rs ts room tables keys heads after e t k d o n h gs b s low long =
       place = means-kept kept place;
       stock =
           record {
-            keys = keys-below few (place .booked .candidates .few) o (keys-kept few (place .booked .candidates .few) (λ i l. d .within .below i (omega arith)) (k .right (omega arith) gs (b .rules) (b .candidates) (place .booked)));
+            keys = keys-below few (place .booked .candidates .few) o (keys-kept few (place .booked .candidates .few) (λ i l. d .within .below i (omega arith)) (λ i l m. d .within .above i (omega arith)) (k .right (omega arith) gs (b .rules) (b .candidates) (place .booked)));
             heads = heads-below rs (b .rules) few o (d .right (omega (arith, k .within .long)) gs ts (b .rules) (b .candidates) booked);
             good = good-empty (filesOf rs gs ts) (b .candidates) (truth (b .candidates) (length (b .rules)) (atStart (b .rules))) 0 after n;
           };

@@ -15,7 +15,9 @@ use Rattle.room.specs.declared.Spot.{Spot}
 use Rattle.room.proofs.FileLaws.{supposing-some}
 use Rattle.room.proofs.WhereLaws.{kept-then, kept-less, push-keeps}
 use Rattle.room.proofs.MoveLaws.{sets-after}
+use Rattle.keys.specs.Chains.{linkWord, firstWord, chainsEnd}
 use Rattle.keys.specs.Keys.{keyWord, keysEnd, KeysIn}
+use Rattle.keys.proofs.ChainLaws.{chained-kept}
 use Rattle.narrow.specs.Heads.{predicateWord, headWord, HeadsIn}
 use Rattle.narrow.proofs.FillLaws.{heads-kept}
 use Rattle.table.specs.Slots.{tableWord}
@@ -44,6 +46,7 @@ module _ {f : Files} {ds : List (Clause Plain)} {us : List Term} {m : ℕ} {c : 
             record {
               rules = λ j d q. k (keyWord j) (omega arith) ∙ s .keys .rules j d q;
               candidates = λ j t q. k (3456 + j) (omega arith) ∙ s .keys .candidates j t q;
+              chains = chained-kept (λ j l. k (keyWord j) (omega arith)) (λ j l. k (linkWord j) (omega arith)) (λ b l. k (firstWord b) (omega arith)) (s .keys .chains);
             };
         heads = heads-kept (f .rules) after room ds (λ j l. (k (predicateWord j) (omega arith), k (headWord j) (omega arith))) (s .heads);
         good = good-kept (s .good) e (λ i l. k i (omega arith));
@@ -55,20 +58,22 @@ module _ {f : Files} {ds : List (Clause Plain)} {us : List Term} {m : ℕ} {c : 
   pub keeps-push : (room : List ℕ) (supposed top v : ℕ) → supposed ≤ 63 → stack ≤ top → top < keyWord 0 → Keeps (Stock f ds us m c) supposed top room (set room top v)
   keeps-push room supposed top v l h b = record { words = push-keeps room supposed top v l h; stock = stock-set top v b }
 
--- below the table lie the words that a place relies on, the numbers, and the heads
+-- below the table lie the words that a place relies on, the numbers, the heads, and the chains
 pub kept-below : {supposed top : ℕ} {room after : List ℕ} → supposed ≤ levels → top ≤ tableWord → TableOnly room after → Kept supposed top room after
 kept-below l h t i (Live.low k) = t .below i (omega arith)
 kept-below l h t i (Live.high k b) = t .below i (omega arith)
 
-pub keys-kept : {ds : List (Clause Plain)} {us : List Term} {room after : List ℕ} → length ds ≤ rulesAtMost → length us ≤ candidatesAtMost → ((i : ℕ) → i < keysEnd → getD after i 0 ≡ getD room i 0) → KeysIn room ds us → KeysIn after ds us
-keys-kept {ds} {us} l l′ e k =
+pub keys-kept : {ds : List (Clause Plain)} {us : List Term} {room after : List ℕ} → length ds ≤ rulesAtMost → length us ≤ candidatesAtMost → ((i : ℕ) → i < keysEnd → getD after i 0 ≡ getD room i 0) → ((i : ℕ) → linkWord 0 ≤ i → i < chainsEnd → getD after i 0 ≡ getD room i 0)
+    → KeysIn room ds us → KeysIn after ds us
+keys-kept {ds} {us} l l′ e g k =
     record {
       rules = λ j d q. e (keyWord j) (omega (arith, member-below ds j d q)) ∙ k .rules j d q;
       candidates = λ j u q. e (3456 + j) (omega (arith, member-below us j u q)) ∙ k .candidates j u q;
+      chains = chained-kept (λ j m. e (keyWord j) (omega (arith, m, l))) (λ j m. g (linkWord j) (omega arith) (omega (arith, m, l))) (λ b m. g (firstWord b) (omega arith) (omega (arith, m))) (k .chains);
     }
 
 pub keys-below : {ds : List (Clause Plain)} {us : List Term} {room after : List ℕ} → length ds ≤ rulesAtMost → length us ≤ candidatesAtMost → TableOnly room after → KeysIn room ds us → KeysIn after ds us
-keys-below l l′ t k = keys-kept l l′ (λ i h. t .below i (omega arith)) k
+keys-below l l′ t k = keys-kept l l′ (λ i h. t .below i (omega arith)) (λ i h h′. t .below i (omega arith)) k
 
 pub heads-below : (rules : List ℕ) (ds : List (Clause Plain)) {room after : List ℕ} → length ds ≤ rulesAtMost → TableOnly room after → HeadsIn room rules ds → HeadsIn after rules ds
 heads-below rules ds {room} {after} l t h = heads-kept rules after room ds (λ j m. (t .below (predicateWord j) (omega arith), t .below (headWord j) (omega arith))) h

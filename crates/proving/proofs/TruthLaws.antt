@@ -19,6 +19,7 @@ use Rattle.room.specs.Layout.{rulesWord}
 use Rattle.room.specs.Where.{Files}
 use Rattle.room.specs.declared.Where.{Where}
 use Rattle.keys.specs.Key.{atomKey, predicateKey, headKey, clauseKey}
+use Rattle.keys.specs.Chains.{Chained}
 use Rattle.keys.specs.Keys.{keyWord, Differs, Barred, NextClause}
 use Rattle.keys.proofs.KeyLaws.{replaced-predicate-key, head-fits}
 use Rattle.table.specs.Good.{Rises}
@@ -155,4 +156,6 @@ module _ {f : Files} {room : List ℕ} {ds : List (Clause Plain)} {us : List Ter
 
   -- and of all that are passed over
   pub passed-over : {from n next : ℕ} → NextClause room predicate key from n next → (j : ℕ) → from ≤ j → j < next → clauseDoes (listed us) o c (serves (listed us) left o c bs a) j ≡ false
-  passed-over N j l m = barred-rule j (N .rules j l m) (N .barred j l m)
+  passed-over N j l m =
+      let P = N .right (subst (Chained room 0) {x = length ds} {y = getD room rulesWord 0} (omega (arith, r .place .booked .rules .counted)) (r .stock .keys .chains)) in
+      barred-rule j (P .rules j l m) (P .barred j l m)

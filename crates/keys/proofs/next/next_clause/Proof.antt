@@ -1,80 +1,66 @@
 -- `next_clause` of src/next.rt meets its contract. Assumes nothing.
-use Prim.Native.Nat.{_-_}
-use native.Mathlib.Omega.{arith}
+use Rattle.keys.proofs.NextLaws.{next-past, next-supposed, next-rule}
 use borrow.Author.Needs.{needs}
-use Rattle.keys.proofs.NextLaws.{Passed, passed-none, passed-more, next-here, next-none}
 use Rattle.keys.proofs.next.next_clause.Statement.{statement}
 use Rattle.keys.proofs.next.next_clause.Tie as tie
 
-abbrev Inv-loop : tie.InvT-loop
-Inv-loop room predicate key from n rules k₀ k = Passed room predicate key from k
+-- src/next.rt:65:9
+returns : tie.Need-returns
+returns c = let x = c .before .before .args in next-past (x .room .now) (x .predicate) (x .key) (x .from) (x .n) (c .if1 .taken)
 
-abbrev μ-loop : tie.MeasureT-loop
-μ-loop room predicate key from n rules k₀ k = n - k
-
--- src/next.rt:22:17
-word-requires : tie.Need-word-requires Inv-loop μ-loop
+-- src/next.rt:67:9
+word-requires : tie.Need-word-requires
 word-requires c κs = search needs
 
--- src/next.rt:22:17
-cast-rules : tie.Need-cast-rules Inv-loop μ-loop
-cast-rules c = search needs
+-- src/next.rt:68:8
+cast-if2 : tie.Need-cast-if2
+cast-if2 c = search needs
 
--- src/next.rt:24:5
-loop-holds : tie.Need-loop-holds Inv-loop μ-loop
-loop-holds c = let x = c .before .before .args in passed-none (x .room .now) (x .predicate) (x .key) (x .from)
+-- src/next.rt:69:9
+returns-2 : tie.Need-returns-2
+returns-2 c = let x = c .before .before .before .before .args in next-supposed (x .room .now) (x .predicate) (x .key) (x .from) (x .n) (c .before .before .if1 .left)
 
--- src/next.rt:26:13
-returns : tie.Need-returns Inv-loop μ-loop
-returns c = let x = c .before .before .before .before .before .args in let l = c .before .before .loop in next-here (x .room .now) (x .predicate) (x .key) (x .from) (x .n) (l .k) (l .inv) (c .before .loop-test .taken)
+-- src/next.rt:71:13
+cast-f : tie.Need-cast-f
+cast-f c = search needs
 
--- src/next.rt:28:33
-add-word : tie.Need-add-word Inv-loop μ-loop
-add-word c = search needs
+-- src/next.rt:72:37
+lesser-requires : tie.Need-lesser-requires
+lesser-requires c κs = search needs
 
--- src/next.rt:28:22
-word-requires-2 : tie.Need-word-requires-2 Inv-loop μ-loop
-word-requires-2 c κs = search needs
+-- src/next.rt:72:9
+next-with-requires : tie.Need-next-with-requires
+next-with-requires c κs = search needs
 
--- src/next.rt:28:12
-may-serve-requires : tie.Need-may-serve-requires Inv-loop μ-loop
-may-serve-requires c κs = search needs
+-- src/next.rt:73:9
+next-with-requires-2 : tie.Need-next-with-requires-2
+next-with-requires-2 c κs = search needs
 
--- src/next.rt:29:13
-returns-2 : tie.Need-returns-2 Inv-loop μ-loop
-returns-2 c = let x = c .before .before .before .before .before .before .before .before .args in let l = c .before .before .before .before .before .loop in next-here (x .room .now) (x .predicate) (x .key) (x .from) (x .n) (l .k) (l .inv) (c .before .before .before .before .loop-test .taken)
+-- src/next.rt:74:5
+next-with-requires-3 : tie.Need-next-with-requires-3
+next-with-requires-3 c κs = search needs
 
--- src/next.rt:31:9
-add-k : tie.Need-add-k Inv-loop μ-loop
-add-k c = search needs
+-- src/next.rt:74:5
+cast-result : tie.Need-cast-result
+cast-result c = search needs
 
--- src/next.rt:24:5
-loop-less : tie.Need-loop-less Inv-loop μ-loop
-loop-less c = search needs
-
--- src/next.rt:24:5
-loop-again : tie.Need-loop-again Inv-loop μ-loop
-loop-again c = let x = c .before .before .before .before .before .before .before .before .args in let l = c .before .before .before .before .before .loop in passed-more (x .room .now) (x .predicate) (x .key) (x .from) (l .k) (l .inv) (c .before .before .before .before .before .before .word .ensures) (c .before .before .before .if1 .left) (c .before .before .word2 .ensures) (c .before .may-serve .ensures) (c .if2 .left)
-
--- src/next.rt:19:1
-returns-3 : tie.Need-returns-3 Inv-loop μ-loop
-returns-3 c = let x = c .before .before .before .before .args in let l = c .before .loop in next-none (x .room .now) (x .predicate) (x .key) (x .from) (x .n) (l .k) (l .inv) (c .loop-test .left)
+-- src/next.rt:61:1
+returns-3 : tie.Need-returns-3
+returns-3 c = let x = c .before .before .before .before .before .before .before .before .args in
+    next-rule (x .room .now) (x .predicate) (x .key) (x .from) (x .n) (c .next-with3 .result) (c .before .before .before .before .before .before .if1 .left) (c .before .before .before .before .before .word .ensures) (c .before .before .before .before .if2 .left) (c .before .before .before .lesser .ensures) (c .before .before .next-with .ensures) (c .before .next-with2 .ensures) (c .next-with3 .ensures)
 
 pub next-clause-spec : {M : Type 1} → statement M
 next-clause-spec =
     tie.close
     (tie.spec
-    Inv-loop
-    μ-loop
-    word-requires
-    cast-rules
-    loop-holds
     returns
-    add-word
-    word-requires-2
-    may-serve-requires
+    word-requires
+    cast-if2
     returns-2
-    add-k
-    loop-less
-    loop-again
+    cast-f
+    lesser-requires
+    next-with-requires
+    next-with-requires-2
+    next-with-requires-3
+    cast-result
     returns-3)
