@@ -34,19 +34,19 @@ more-none marks = record { long = refl; kept = λ i e. e }
 pub more-then : {a b c : List ℕ} → More a b → More b c → More a c
 more-then M N = record { long = N .long ∙ M .long; kept = λ i e. M .kept i (N .kept i e) }
 
-more-one : (marks : List ℕ) (n : ℕ) → More marks (set marks n 1)
-more-one marks n = record { long = length-set marks n 1; kept = λ i e. go i e (ltb n (length marks)) refl (eqb i n) refl }
+pub more-set : (marks : List ℕ) (n m : ℕ) → (m ≡ 0 → ⊥) → More marks (set marks n m)
+more-set marks n m some = record { long = length-set marks n m; kept = λ i e. go i e (ltb n (length marks)) refl (eqb i n) refl }
   where
-    go : (i : ℕ) → getD (set marks n 1) i 0 ≡ 0 → (b : Bool) → ltb n (length marks) ≡ b → (d : Bool) → eqb i n ≡ d → getD marks i 0 ≡ 0
-    go i e false b d z = ap (λ (m : List ℕ). getD m i 0) (sym (set-out marks n 1 (ltb-false n (length marks) b))) ∙ e
-    go i e true b false z = sym (getD-set-other marks n i 1 0 (eqb-false i n z)) ∙ e
+    go : (i : ℕ) → getD (set marks n m) i 0 ≡ 0 → (b : Bool) → ltb n (length marks) ≡ b → (d : Bool) → eqb i n ≡ d → getD marks i 0 ≡ 0
+    go i e false b d z = ap (λ (l : List ℕ). getD l i 0) (sym (set-out marks n m (ltb-false n (length marks) b))) ∙ e
+    go i e true b false z = sym (getD-set-other marks n i m 0 (eqb-false i n z)) ∙ e
     go i e true b true z =
-        let w = getD-set-same marks n 1 0 (ltb-true n (length marks) b) in
-        let y = ap (λ (j : ℕ). getD (set marks n 1) j 0) (eqb-true i n z) in
-        absurd (omega (arith, w, y, e))
+        let w = getD-set-same marks n m 0 (ltb-true n (length marks) b) in
+        let y = ap (λ (j : ℕ). getD (set marks n m) j 0) (eqb-true i n z) in
+        absurd (some (omega (arith, w, y, e)))
 
 -- a candidate left out by more marks is left out by fewer
-left-more : {us : List Term} {before after : List ℕ} {i : ℕ} → More before after → LeftOut us after i → LeftOut us before i
+pub left-more : {us : List Term} {before after : List ℕ} {i : ℕ} → More before after → LeftOut us after i → LeftOut us before i
 left-more {i = i} M L = record { few = L .few; enough = omega (arith, L .enough, M .long); unmarked = M .kept i (L .unmarked); first = L .first }
 
 pub gives-more : {room : List ℕ} {us : List Term} {x : Spot} {own v : ℕ} {before after : List ℕ} {i : ℕ} {es : Bindings} → More before after → Gives room us x own v after i es → Gives room us x own v before i es
@@ -91,7 +91,7 @@ module _ (f : Files) (room : List ℕ) (x y : Spot) (own v : ℕ) (marks : List 
 
     pub head-forces : {n : ℕ} {after : List ℕ} → r ≡ F.Candidate n → after ≡ set marks n 1 → Adds marks after true (ByHead f room x y own v after)
     head-forces {n} e g = subst (λ (m : List ℕ). Adds marks m true (ByHead f room x y own v m)) (sym g) (record {
-      more = more-one marks n;
+      more = more-set marks n 1 (λ e. omega arith);
       told = λ _ us a b S C K X Y i es G.
           let T = subst (ForcedAs us (bindingsAt room y) a b v) e (H us a b S C K X Y) in
           never-same (replacedAtom us (bindingsAt room y) b) (replacedAtom us es a)

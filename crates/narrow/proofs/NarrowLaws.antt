@@ -1,5 +1,5 @@
--- What the rules and the supposed clauses say of the candidates without a mark, one after the other, and all of them together (document 02, Three: no verdict and no strip changes).
-use Prim.Native.Nat.{ℕ, _+_, _-_, _%_, _≤_}
+-- What the rules and the supposed clauses say of the candidates without a mark, each of them (document 02, Three: no verdict and no strip changes).
+use Prim.Native.Nat.{ℕ, _+_, _-_, _%_, _≤_, _<_}
 use native.Mathlib.Omega.{arith}
 use mathlib.Core.Path.{_≡_, refl, sym, _∙_, ap, subst}
 use mathlib.Core.Bool.{Bool, true, false, not, false≢true}
@@ -28,7 +28,7 @@ use Rattle.heads.specs.Predicate.{bytesAt, AtomThere, HasHead}
 use Rattle.heads.proofs.HeadLaws.{clause-says, clause-is}
 use Rattle.keys.specs.Keys.{PredicateKeyAt}
 use Rattle.narrow.specs.Heads.{headOf, HeadIn}
-use Rattle.narrow.specs.Narrow.{NoHead, Gives, Known, Narrows, ByHead, ByRule, ByRules, ByOne, BySupposed, More, Adds, ruleSpot}
+use Rattle.narrow.specs.Narrow.{NoHead, Gives, Known, ByHead, ByRule, ByOne, ByClause, More, Adds, ruleSpot}
 use Rattle.narrow.proofs.FillLaws.{head-nests}
 use Rattle.narrow.proofs.NoHeadLaws.{headless, one-head, other-number, no-variables, head-ok, one-fact}
 use Rattle.narrow.proofs.MarkLaws.{more-none, more-then, gives-more}
@@ -77,23 +77,6 @@ module _ (f : Files) (room : List ℕ) (x : Spot) (own v predicate k : ℕ) (mar
             let says = subst (λ (s : Spot). ByHead f room x s own v after) j (A .told t) us a b (file-small (N .booked)) (N .booked .candidates) (N .keys .candidates) (N .atom) Y i es G in
             one-head us (replacedAtom us es a) b (one-fact us (replacedAtom us es a) b (bindingsAt room (ruleSpot room (3968 + k))) closed says) d z []
 
--- rule after rule
-module _ (f : Files) (room : List ℕ) (x : Spot) (own v : ℕ) where
-  pub rules-none : (marks : List ℕ) → ByRules f room x own v marks 0
-  rules-none marks ds us a N k d l = absurd (omega arith)
-
-  pub rules-more : {marks after : List ℕ} {predicate k : ℕ} {r : Bool} → PredicateKeyAt f x predicate → ByRules f room x own v marks k → Adds marks after r (ByRule f room x own v predicate after k) → r ≡ true → ByRules f room x own v after (k + 1)
-  rules-more {marks} {after} {predicate} {k} P R A t ds us a N j d l m i es G = go (ltb j k) refl
-    where
-      go : (b : Bool) → ltb j k ≡ b → NoHead us [] d (replacedAtom us es a)
-      go true b = R ds us a N j d (ltb-true j k b) m i es (gives-more (A .more) G)
-      go false b =
-          let same : j ≡ k = omega (arith, ltb-false j k b, l) in
-          A .told t P ds us a N d (subst (λ (n : ℕ). getElem? ds n ≡ some d) same m) i es G
-
-  pub rules-all : {marks : List ℕ} {n k : ℕ} → n ≡ getD room 0 0 → n ≤ k → ByRules f room x own v marks k → ByRules f room x own v marks (getD room rulesWord 0)
-  rules-all e l R ds us a N j d b = R ds us a N j d (omega arith)
-
 -- supposed clause j
 module _ (f : Files) (room : List ℕ) (x : Spot) (own v j : ℕ) (marks : List ℕ) {y : Spot} (e : y ≡ supposedIn room j) where
   framed : {ds : List (Clause Plain)} {supposed top : ℕ} {c : Hand Plain} → HandIn f room ds supposed top c → (h : AtHand Plain) → getElem? c (length ds + j) ≡ some h → Framed f room y top (clauseSexp (h .clause)) (h .bindings)
@@ -128,41 +111,20 @@ module _ (f : Files) (room : List ℕ) (x : Spot) (own v j : ℕ) (marks : List 
         subst (λ (d : Clause Plain). NoHead us (h .bindings) d (replacedAtom us es a)) (sym z) (subst (λ (bs : Bindings). sameAtom (replacedAtom us bs b) (replacedAtom us es a) ≡ false) (F .holds) says);
   }
 
--- clause after clause that is supposed
-module _ (f : Files) (room : List ℕ) (x : Spot) (own v : ℕ) where
-  pub supposed-none : (marks : List ℕ) → BySupposed f room x own v marks 0
-  supposed-none marks ds us a N supposed top c T j h l = absurd (omega arith)
+-- clause k at hand, which is a rule or one of those that are supposed
+module _ (f : Files) (room : List ℕ) (x : Spot) (own v predicate : ℕ) {marks after : List ℕ} {n k i : ℕ} {r : Bool} (e : n ≡ getD room 0 0) where
+  pub clause-rule : k < n → i ≡ k → Adds marks after r (ByRule f room x own v predicate after i) → Adds marks after r (ByClause f room x own v predicate after k)
+  clause-rule l q A = record {
+    more = A .more;
+    told = λ t P ds us a N supposed top c T h m j es G.
+        let (z, g) = T .rule k h (omega (arith, l, e, N .booked .rules .counted)) m in
+        subst (λ (bs : Bindings). NoHead us bs (h .clause) (replacedAtom us es a)) (sym z) (A .told t P ds us a N (h .clause) (subst (λ (y : ℕ). getElem? ds y ≡ some (h .clause)) (sym q) g) j es G);
+  }
 
-  pub supposed-more : {marks after : List ℕ} {j : ℕ} {r : Bool} → BySupposed f room x own v marks j → Adds marks after r (ByOne f room x own v after j) → r ≡ true → BySupposed f room x own v after (j + 1)
-  supposed-more {marks} {after} {j} R A t ds us a N supposed top c T k h l m i es G = go (ltb k j) refl
-    where
-      go : (b : Bool) → ltb k j ≡ b → NoHead us (h .bindings) (h .clause) (replacedAtom us es a)
-      go true b = R ds us a N supposed top c T k h (ltb-true k j b) m i es (gives-more (A .more) G)
-      go false b =
-          let same : k ≡ j = omega (arith, ltb-false k j b, l) in
-          A .told t ds us a N supposed top c T h (subst (λ (n : ℕ). getElem? c (length ds + n) ≡ some h) same m) i es G
-
-  pub supposed-all : {marks : List ℕ} {n k : ℕ} → n ≤ k → BySupposed f room x own v marks k → BySupposed f room x own v marks n
-  supposed-all l R ds us a N supposed top c T j h b = R ds us a N supposed top c T j h (omega arith)
-
-  -- all clauses at hand
-  pub narrowed : {mid after : List ℕ} {many : ℕ} → ByRules f room x own v mid (getD room rulesWord 0) → More mid after → BySupposed f room x own v after many → Narrows f room many x own v after
-  narrowed {mid} {after} {many} R M S ds us a N top c T k h m i es G = go (ltb k (length ds)) refl
-    where
-      go : (b : Bool) → ltb k (length ds) ≡ b → NoHead us (h .bindings) (h .clause) (replacedAtom us es a)
-      go true b =
-          let l = ltb-true k (length ds) b in
-          let (z, g) = T .rule k h l m in
-          subst (λ (bs : Bindings). NoHead us bs (h .clause) (replacedAtom us es a)) (sym z) (R ds us a N k (h .clause) (omega (arith, l, N .booked .rules .counted)) g i es (gives-more M G))
-      go false b =
-          let l = ltb-false k (length ds) b in
-          let w = member-below c k h m in
-          let same : k ≡ length ds + (k - length ds) = omega arith in
-          S ds us a N many top c T (k - length ds) h (omega (arith, T .number)) (subst (λ (n : ℕ). getElem? c n ≡ some h) same m) i es G
-
--- all of them have said something, or one says nothing
-pub adds-all : {a b : List ℕ} {says : Type 0} → More a b → says → Adds a b true says
-adds-all M S = record { more = M; told = λ e. S }
-
-pub adds-stop : {a b c : List ℕ} {r : Bool} {says other : Type 0} → More a b → Adds b c r says → Adds a c false other
-adds-stop M A = record { more = more-then M (A .more); told = λ e. absurd (false≢true e) }
+  pub clause-supposed : n ≤ k → i ≡ k - n → Adds marks after r (ByOne f room x own v after i) → Adds marks after r (ByClause f room x own v predicate after k)
+  clause-supposed l q A = record {
+    more = A .more;
+    told = λ t P ds us a N supposed top c T h m j es G.
+        let same : k ≡ length ds + i = omega (arith, l, q, e, N .booked .rules .counted) in
+        A .told t ds us a N supposed top c T h (subst (λ (y : ℕ). getElem? c y ≡ some h) same m) j es G;
+  }

@@ -52,22 +52,6 @@ pub record Known (f : Files) (room : List ℕ) (ds : List (Clause Plain)) (us : 
   pub heads : HeadsIn room (f .rules) ds
   pub atom : AtomAt (f .rules) (f .goal) (f .terms) x a
 
--- the marks say what they say of every clause at hand
-abbrev pub Narrows : Files → List ℕ → ℕ → Spot → ℕ → ℕ → List ℕ → Type 0
-Narrows f room supposed x own v marks =
-    (ds : List (Clause Plain)) (us : List Term) (a : Atom) → Known f room ds us x a → (top : ℕ) (c : Hand Plain) → HandIn f room ds supposed top c
-    → (k : ℕ) (h : AtHand Plain) → getElem? c k ≡ some h → CannotServe room us x own v marks a (h .bindings) (h .clause)
-
--- of the first n rules, and of the first m clauses that are supposed
-abbrev pub ByRules : Files → List ℕ → Spot → ℕ → ℕ → List ℕ → ℕ → Type 0
-ByRules f room x own v marks n =
-    (ds : List (Clause Plain)) (us : List Term) (a : Atom) → Known f room ds us x a → (k : ℕ) (d : Clause Plain) → k < n → getElem? ds k ≡ some d → CannotServe room us x own v marks a [] d
-
-abbrev pub BySupposed : Files → List ℕ → Spot → ℕ → ℕ → List ℕ → ℕ → Type 0
-BySupposed f room x own v marks m =
-    (ds : List (Clause Plain)) (us : List Term) (a : Atom) → Known f room ds us x a → (supposed top : ℕ) (c : Hand Plain) → HandIn f room ds supposed top c
-    → (j : ℕ) (h : AtHand Plain) → j < m → getElem? c (length ds + j) ≡ some h → CannotServe room us x own v marks a (h .bindings) (h .clause)
-
 -- no mark is taken back
 pub record More (before after : List ℕ) : Type 0 where
   pub long : length after ≡ length before
@@ -95,6 +79,13 @@ abbrev pub ByOne : Files → List ℕ → Spot → ℕ → ℕ → List ℕ → 
 ByOne f room x own v marks j =
     (ds : List (Clause Plain)) (us : List Term) (a : Atom) → Known f room ds us x a → (supposed top : ℕ) (c : Hand Plain) → HandIn f room ds supposed top c
     → (h : AtHand Plain) → getElem? c (length ds + j) ≡ some h → CannotServe room us x own v marks a (h .bindings) (h .clause)
+
+-- by clause k at hand, whichever it is
+abbrev pub ByClause : Files → List ℕ → Spot → ℕ → ℕ → ℕ → List ℕ → ℕ → Type 0
+ByClause f room x own v predicate marks k =
+    PredicateKeyAt f x predicate
+    → (ds : List (Clause Plain)) (us : List Term) (a : Atom) → Known f room ds us x a → (supposed top : ℕ) (c : Hand Plain) → HandIn f room ds supposed top c
+    → (h : AtHand Plain) → getElem? c k ≡ some h → CannotServe room us x own v marks a (h .bindings) (h .clause)
 
 -- the spot in the rule file, in no frame, at the offset that a word of the room keeps
 abbrev pub ruleSpot : List ℕ → ℕ → Spot

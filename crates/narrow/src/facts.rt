@@ -1,9 +1,7 @@
 // The candidates that the heads at hand force on a variable of an atom (document 02, Three). Where a head with the atom's predicate has variables, or forces nothing, nothing is said of them.
 use crate::marks::mark;
-use crate::marks::unmark_all;
 use crate::table::word;
 use heads::has_head;
-use keys::predicate_key;
 use packet::Word;
 use places::word_there;
 use room::Source;
@@ -12,12 +10,9 @@ use room::supposed;
 use unset::Forced;
 use unset::forced_by;
 use unset::may_be;
-ghost use mathlib.Core.Bool.{true};
 ghost use mathlib.Core.Path.{_≡_};
-ghost use lib.ListN.{getD};
-ghost use Rattle.room.specs.Layout.{rulesWord};
 ghost use Rattle.room.specs.Where.{filesOf};
-ghost use Rattle.narrow.specs.Narrow.{Adds, ByHead, ByRule, ByRules, ByOne, BySupposed, Narrows, ruleSpot};
+ghost use Rattle.narrow.specs.Narrow.{Adds, ByHead, ByRule, ByOne, ByClause, ruleSpot};
 
 // By the head at the second spot, in whose frame every variable is set: the candidate that it forces on the variable is marked. No: it forces nothing, so any candidate may do.
 fn by_head<'a>(
@@ -90,31 +85,6 @@ fn by_rule<'a>(
     by_head(rules, goal, terms, room, x, y, own, v, marks)
 }
 
-// By all rules.
-fn by_rules<'a>(
-    rules: &'a [u8],
-    goal: &'a [u8],
-    terms: &'a [u8],
-    room: &[u32],
-    x: Spot,
-    own: usize,
-    v: usize,
-    marks: &mut [u8],
-) -> bool
-    ensures { λ r. ⌜ Adds (now (marks .entry)) (now (marks .exit)) r (ByRules (filesOf (now (rules .entry)) (now (goal .entry)) (now (terms .entry))) (now (room .entry)) x own v (now (marks .exit)) (getD (now (room .entry)) rulesWord 0)) ⌝ }
-{
-    let predicate = predicate_key(rules, goal, terms, x);
-    let n = word(room, 0);
-    let mut k: u32 = 0;
-    while k < n {
-        if !by_rule(rules, goal, terms, room, x, own, v, predicate, k, marks) {
-            return false;
-        }
-        k += 1;
-    }
-    true
-}
-
 // By supposed clause j: one that is an atom is a head whose frame is set. No: any other has a head with the atom's predicate, or the atom forces nothing.
 fn by_one<'a>(
     rules: &'a [u8],
@@ -136,47 +106,35 @@ fn by_one<'a>(
     }
 }
 
-// By all clauses that are supposed.
-fn by_supposed<'a>(
+// By clause k at hand: a rule, or one of those that are supposed. No: nothing can be said of it by its heads.
+pub fn by_clause<'a>(
     rules: &'a [u8],
     goal: &'a [u8],
     terms: &'a [u8],
     room: &[u32],
-    many: usize,
     x: Spot,
     own: usize,
     v: usize,
+    predicate: u32,
+    k: usize,
     marks: &mut [u8],
 ) -> bool
-    ensures { λ r. ⌜ Adds (now (marks .entry)) (now (marks .exit)) r (BySupposed (filesOf (now (rules .entry)) (now (goal .entry)) (now (terms .entry))) (now (room .entry)) x own v (now (marks .exit)) many) ⌝ }
+    ensures { λ r. ⌜ Adds (now (marks .entry)) (now (marks .exit)) r (ByClause (filesOf (now (rules .entry)) (now (goal .entry)) (now (terms .entry))) (now (room .entry)) x own v predicate (now (marks .exit)) k) ⌝ }
 {
-    let mut j = 0;
-    while j < many {
-        if !by_one(rules, goal, terms, room, x, own, v, j, marks) {
-            return false;
-        }
-        j += 1;
+    let n = word(room, 0) as usize;
+    if k < n {
+        return by_rule(
+            rules,
+            goal,
+            terms,
+            room,
+            x,
+            own,
+            v,
+            predicate,
+            k as u32,
+            marks,
+        );
     }
-    true
-}
-
-// The candidates marked that variable v of the atom at a spot need be tried with, where so many clauses are supposed. No: nothing can be said of them.
-pub fn narrow<'a>(
-    rules: &'a [u8],
-    goal: &'a [u8],
-    terms: &'a [u8],
-    room: &[u32],
-    supposed: usize,
-    x: Spot,
-    own: usize,
-    v: usize,
-    marks: &mut [u8],
-) -> bool
-    ensures { λ r. ⌜ (r ≡ true → Narrows (filesOf (now (rules .entry)) (now (goal .entry)) (now (terms .entry))) (now (room .entry)) supposed x own v (now (marks .exit))) ⌝ }
-{
-    unmark_all(marks);
-    if !by_rules(rules, goal, terms, room, x, own, v, marks) {
-        return false;
-    }
-    by_supposed(rules, goal, terms, room, supposed, x, own, v, marks)
+    by_one(rules, goal, terms, room, x, own, v, k - n, marks)
 }

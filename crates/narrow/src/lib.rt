@@ -4,5 +4,7 @@ mod marks;
 mod rule;
 mod table;
 
-pub use facts::narrow;
+pub use facts::by_clause;
+pub use marks::spend;
+pub use marks::unmark_all;
 pub use table::fill_heads;

@@ -7,6 +7,8 @@ use held::holds;
 use held::is_open;
 use keys::both_keys;
 use keys::next_clause;
+use narrowing::is_left_out;
+use narrowing::narrow_body;
 use packet::Word;
 use places::bound;
 use places::further;
@@ -22,9 +24,7 @@ use proving::candidates;
 use proving::clauses;
 use proving::deeper;
 use proving::is_fact;
-use proving::is_left_out;
 use proving::match_head;
-use proving::narrow_body;
 use proving::open_clause;
 use proving::parts_of;
 use proving::unset_all;
@@ -517,9 +517,9 @@ fn try_all<'a>(
 ) -> bool
     ensures { λ r. ⌜ FillingEach (filesOf (now (rules .entry)) (now (goal .entry)) (now (terms .entry))) (now (room .entry)) (now (room .exit)) w p v left r ⌝ }
 {
-    let mut marks = [0u8; 256];
-    let narrowed = narrow_body(rules, goal, terms, room, w, p, v, &mut marks);
     let n = candidates(room);
+    let mut marks = [0u8; 257];
+    let narrowed = narrow_body(rules, goal, terms, room, w, p, v, left, &mut marks);
     let mut i: u32 = 0;
     while i < n {
         if is_left_out(narrowed, &marks, i) {

@@ -19,5 +19,4 @@ pub mod PlainLaws
 pub mod PartsLaws
 pub mod SettleLaws
 pub mod FillLaws
-pub mod TriedLaws
 pub mod LocatingLaws

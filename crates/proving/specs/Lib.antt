@@ -7,4 +7,3 @@ pub mod Frames
 pub mod First
 pub mod Filling
 pub mod Matching
-pub mod Tried

@@ -2,7 +2,6 @@
 mod hand;
 mod matching;
 mod plain;
-mod tried;
 
 pub use hand::candidates;
 pub use hand::clauses;
@@ -17,8 +16,6 @@ pub use plain::parts_of;
 pub use plain::unset_all;
 pub use plain::word_of;
 use room::Spot;
-pub use tried::is_left_out;
-pub use tried::narrow_body;
 
 // Clause k, if it is at hand.
 pub enum Chosen {

@@ -9,7 +9,7 @@ use native.Mathlib.Omega.{arith}
 use lib.Dec.{eqb}
 use lib.ListN.{length, getD, drop, getElem?, length-drop}
 use lib.Seq.{drop-drop}
-use borrow.Author.Tests.{eqb-true, eqb-false, ltb-true}
+use borrow.Author.Tests.{eqb-true, eqb-false, eq-eqb, ltb-true}
 use Rattle.basics.specs.Choice.{both-true}
 use Rattle.basics.specs.Tells.{Tells, told-yes, told-no}
 use Rattle.basics.specs.Text.{octets}
@@ -48,6 +48,7 @@ use Rattle.unset.specs.declared.Forced.{Forced}
 use Rattle.unset.specs.declared.Forced.the-variants as F
 use Rattle.held.specs.Held.{Holding}
 use Rattle.unset.specs.Unset.{Small, MayBe, ForcedAs, Forces}
+use Rattle.unset.specs.Beside.{IsVariable, VariableIs, SameIs}
 use Rattle.unset.specs.Head.{DiffersAt, NoneOf, CandidateOf, CandidateAt, isVariable, VariableAt}
 
 neither : (a b : Bool) → a || b ≡ false → (a ≡ false) × (b ≡ false)
@@ -82,7 +83,7 @@ refuted : (a b : Bool) → (a ≡ true → b ≡ true) → b ≡ false → a ≡
 refuted a b h e = never a (λ q. false≢true (sym e ∙ h q))
 
 -- a term that is variable v
-is-this : (v : ℕ) (t : Term) → isVariable v t ≡ true → t ≡ Term.v v
+pub is-this : (v : ℕ) (t : Term) → isVariable v t ≡ true → t ≡ Term.v v
 is-this v (Term.v n) e = ap Term.v (eqb-true n v e)
 is-this v (Term.f g ts) e = absurd (false≢true e)
 is-this v (Term.e m) e = absurd (false≢true e)
@@ -151,6 +152,11 @@ module _ (s : List ℕ) (at v : ℕ) where
         go (Term.f g ts) S ok = refl
         go (Term.e m) S ok = refl
 
+-- which variable stands there, if one does
+pub variable-is : (s : List ℕ) (at : ℕ) {p q : ℕ} {r : Bool} (w : Value) → p ≡ plus at 1 → Tells r (Stands s p (str (octets "v"))) → r ≡ true → q ≡ plus at 4 → NumberAt s q w → VariableIs s at w
+variable-is s at Val.Nothing i h f j n t around S l few ok = tt
+variable-is s at (Val.Is k) i h f j n t around S l few ok = is-this k t (sym (variable-read s at k (Val.Is k) i h f j n refl t around S l few ok) ∙ eq-eqb k k refl)
+
 -- whether a term differs for good
 module _ (f : Files) (room : List ℕ) (x y : Spot) (own : ℕ) where
   pub differs-not : DiffersAt f room x y own false
@@ -172,19 +178,18 @@ pub record Row (around : ℕ) (s : List ℕ) (p : ℕ) (ts : Terms) : Type 0 whe
   pub few : around ≤ levels
   pub ok : termsOk false around ts ≡ true
 
--- what is left of the arguments of a head b and an atom a, at the offsets p and q: a frame that makes the head the atom makes them the same
-pub record Left (room : List ℕ) (x y : Spot) (s t : List ℕ) (us : List Term) (b a : Atom) (p q : ℕ) : Type 0 where
+-- what is left of the arguments of a head b and an atom a, at the offsets p and q: frames that make the head the atom make them the same
+pub record Left (x y : Spot) (s t : List ℕ) (us : List Term) (b a : Atom) (p q : ℕ) : Type 0 where
   pub one : Terms
   pub two : Terms
   pub here : Row (x .count) s p one
   pub there : Row (y .count) t q two
-  pub implied : (ds : Bindings) → sameAtom (replacedAtom us ds b) (replacedAtom us (bindingsAt room y) a) ≡ true
-      → sameTerms (replaceds us ds one) (replaceds us (bindingsAt room y) two) ≡ true
+  pub implied : (ds es : Bindings) → sameAtom (replacedAtom us ds b) (replacedAtom us es a) ≡ true → sameTerms (replaceds us ds one) (replaceds us es two) ≡ true
 
 abbrev pub LeftAt : Files → List ℕ → Spot → Spot → List ℕ → List ℕ → ℕ → ℕ → Type 0
 LeftAt f room x y s t p q =
     (us : List Term) (b a : Atom) → Small f → CandidatesIn room (f .terms) us → AtomAt (f .rules) (f .goal) (f .terms) x b → AtomAt (f .rules) (f .goal) (f .terms) y a
-    → Left room x y s t us b a p q
+    → Left x y s t us b a p q
 
 -- the same of whatever spot the head's part starts at
 abbrev pub PartsLeft : Files → List ℕ → Spot → List ℕ → List ℕ → ℕ → ℕ → Type 0
@@ -260,13 +265,13 @@ module _ (f : Files) (room : List ℕ) (x y : Spot) {s t : List ℕ} (ex : s ≡
       ap (λ (c : Bool). c && sameTerms (replaceds us ds ts) (replaceds us (bindingsAt room y) ws)) (names-differ n m d)
 
   start : (us : List Term) (n m : Name) (ts ws : Terms) (p q : ℕ) → AtomAt (f .rules) (f .goal) (f .terms) x (Atom.atom n ts) → AtomAt (f .rules) (f .goal) (f .terms) y (Atom.atom m ws)
-      → p ≡ 7 + length (spell (str n)) → q ≡ 7 + length (spell (str m)) → Left room x y s t us (Atom.atom n ts) (Atom.atom m ws) p q
+      → p ≡ 7 + length (spell (str n)) → q ≡ 7 + length (spell (str m)) → Left x y s t us (Atom.atom n ts) (Atom.atom m ws) p q
   start us n m ts ws p q X Y i j = record {
     one = ts;
     two = ws;
     here = row-after n ts X ex p i;
     there = row-after m ws Y ey q j;
-    implied = λ ds e. both-true (sameName n m) (sameTerms (replaceds us ds ts) (replaceds us (bindingsAt room y) ws)) e .1;
+    implied = λ ds es e. both-true (sameName n m) (sameTerms (replaceds us ds ts) (replaceds us es ws)) e .1;
   }
 
   -- the arguments, all of them, after two names or after one name that both have
@@ -285,7 +290,7 @@ module _ (f : Files) (room : List ℕ) (x y : Spot) {s t : List ℕ} (ex : s ≡
     pub left-end : (own : ℕ) {c d : Bool} → c ≡ eqb (getD s p 0) 41 → c ≡ true → d ≡ eqb (getD t q 0) 41 → MayBe f room x y own d
     left-end own {c} {d} e h g us b a S C X Y z ds B =
         let l = L us b a S C X Y in
-        refuted (sameAtom (replacedAtom us ds b) (replacedAtom us (bindingsAt room y) a)) (sameTerms (replaceds us ds (l .one)) (replaceds us (bindingsAt room y) (l .two))) (l .implied ds) (go (l .one) (l .two) (l .here) (l .there))
+        refuted (sameAtom (replacedAtom us ds b) (replacedAtom us (bindingsAt room y) a)) (sameTerms (replaceds us ds (l .one)) (replaceds us (bindingsAt room y) (l .two))) (l .implied ds (bindingsAt room y)) (go (l .one) (l .two) (l .here) (l .there))
       where
         go : (one two : Terms) → Row (x .count) s p one → Row (y .count) t q two → sameTerms (replaceds us ds one) (replaceds us (bindingsAt room y) two) ≡ false
         go (Terms.cons u one) two R R′ = absurd (no-closing (first-stands (R .stands)) (shut s p e h))
@@ -296,7 +301,7 @@ module _ (f : Files) (room : List ℕ) (x y : Spot) {s t : List ℕ} (ex : s ≡
     pub left-short : (own : ℕ) {c d : Bool} → c ≡ eqb (getD s p 0) 41 → c ≡ false → d ≡ eqb (getD t q 0) 41 → d ≡ true → MayBe f room x y own false
     left-short own e h g k us b a S C X Y z ds B =
         let l = L us b a S C X Y in
-        refuted (sameAtom (replacedAtom us ds b) (replacedAtom us (bindingsAt room y) a)) (sameTerms (replaceds us ds (l .one)) (replaceds us (bindingsAt room y) (l .two))) (l .implied ds) (go (l .one) (l .two) (l .here) (l .there))
+        refuted (sameAtom (replacedAtom us ds b) (replacedAtom us (bindingsAt room y) a)) (sameTerms (replaceds us ds (l .one)) (replaceds us (bindingsAt room y) (l .two))) (l .implied ds (bindingsAt room y)) (go (l .one) (l .two) (l .here) (l .there))
       where
         go : (one two : Terms) → Row (x .count) s p one → Row (y .count) t q two → sameTerms (replaceds us ds one) (replaceds us (bindingsAt room y) two) ≡ false
         go Terms.nil two R R′ = absurd (going s p e h (none-closes (R .stands)))
@@ -311,20 +316,19 @@ module _ (f : Files) (room : List ℕ) (x y : Spot) {s t : List ℕ} (ex : s ≡
       pub two : Terms
       pub here : Row (x .count) s p (Terms.cons u one)
       pub there : Row (y .count) t q (Terms.cons w two)
-      pub implied : (ds : Bindings) → sameAtom (replacedAtom us ds b) (replacedAtom us (bindingsAt room y) a) ≡ true
-          → (sameTerm (replaced us ds u) (replaced us (bindingsAt room y) w) ≡ true) × (sameTerms (replaceds us ds one) (replaceds us (bindingsAt room y) two) ≡ true)
+      pub implied : (ds es : Bindings) → sameAtom (replacedAtom us ds b) (replacedAtom us es a) ≡ true → (sameTerm (replaced us ds u) (replaced us es w) ≡ true) × (sameTerms (replaceds us ds one) (replaceds us es two) ≡ true)
 
     module _ {c d : Bool} (e : c ≡ eqb (getD s p 0) 41) (h : c ≡ false) (g : d ≡ eqb (getD t q 0) 41) (k : d ≡ false) where
-      firsts : (us : List Term) (b a : Atom) → Left room x y s t us b a p q → Firsts us b a
+      firsts : (us : List Term) (b a : Atom) → Left x y s t us b a p q → Firsts us b a
       firsts us b a l = go (l .one) (l .two) (l .here) (l .there) (l .implied)
         where
           go : (one two : Terms) → Row (x .count) s p one → Row (y .count) t q two
-              → ((ds : Bindings) → sameAtom (replacedAtom us ds b) (replacedAtom us (bindingsAt room y) a) ≡ true → sameTerms (replaceds us ds one) (replaceds us (bindingsAt room y) two) ≡ true)
+              → ((ds es : Bindings) → sameAtom (replacedAtom us ds b) (replacedAtom us es a) ≡ true → sameTerms (replaceds us ds one) (replaceds us es two) ≡ true)
               → Firsts us b a
           go Terms.nil two R R′ i = absurd (going s p e h (none-closes (R .stands)))
           go (Terms.cons u one) Terms.nil R R′ i = absurd (going t q g k (none-closes (R′ .stands)))
           go (Terms.cons u one) (Terms.cons w two) R R′ i =
-              record { u = u; w = w; one = one; two = two; here = R; there = R′; implied = λ ds z. both-true (sameTerm (replaced us ds u) (replaced us (bindingsAt room y) w)) (sameTerms (replaceds us ds one) (replaceds us (bindingsAt room y) two)) (i ds z) }
+              record { u = u; w = w; one = one; two = two; here = R; there = R′; implied = λ ds es z. both-true (sameTerm (replaced us ds u) (replaced us es w)) (sameTerms (replaceds us ds one) (replaceds us es two)) (i ds es z) }
 
       -- they are beside each other
       pub left-beside : (us : List Term) (b a : Atom) → Small f → CandidatesIn room (f .terms) us → AtomAt (f .rules) (f .goal) (f .terms) x b → AtomAt (f .rules) (f .goal) (f .terms) y a → Beside f room x y us b a p q
@@ -335,7 +339,7 @@ module _ (f : Files) (room : List ℕ) (x y : Spot) {s t : List ℕ} (ex : s ≡
             w = l .w;
             here = term-there f x (l .u) (l .one) S ex refl (l .here);
             there = term-there f y (l .w) (l .two) S ey refl (l .there);
-            implied = λ ds m. l .implied ds m .0;
+            implied = λ ds m. l .implied ds (bindingsAt room y) m .0;
           }
 
       -- they differ for good
@@ -354,7 +358,7 @@ module _ (f : Files) (room : List ℕ) (x y : Spot) {s t : List ℕ} (ex : s ≡
             two = l .two;
             here = row-next (l .u) (l .one) i A (l .here);
             there = row-next (l .w) (l .two) j B (l .there);
-            implied = λ ds m. l .implied ds m .1;
+            implied = λ ds es m. l .implied ds es m .1;
           }
 
       -- the head's is the variable: it becomes the atom's
@@ -365,4 +369,18 @@ module _ (f : Files) (room : List ℕ) (x y : Spot) {s t : List ℕ} (ex : s ≡
           let it = is-this v (l .u) (sym (at (l .u) (x .count) (first-stands (l .here .stands)) (part-small (bytesAt f x) (x .at) ex (S (x .source))) (l .here .few) ok) ∙ i) in
           let H′ = subst (λ (n : Spot). CandidateAt f room n z) j H us (l .w) C K (term-there f y (l .w) (l .two) S ey refl (l .there)) in
           forced-as us (bindingsAt room y) b a v (replaced us (bindingsAt room y) (l .w))
-          (λ ds m. sym (ap (replaced us ds) it) ∙ same-terms-equal (replaced us ds (l .u)) (replaced us (bindingsAt room y) (l .w)) (l .implied ds m .0)) z H′
+          (λ ds m. sym (ap (replaced us ds) it) ∙ same-terms-equal (replaced us ds (l .u)) (replaced us (bindingsAt room y) (l .w)) (l .implied ds (bindingsAt room y) m .0)) z H′
+
+      -- both are variables: where the atoms are the same, so are these
+      pub left-same : (v : ℕ) {r : Bool} (z : Value) → VariableAt s p v r → r ≡ true → VariableIs t q z → (us : List Term) (b a : Atom) → Small f → CandidatesIn room (f .terms) us → AtomAt (f .rules) (f .goal) (f .terms) x b → AtomAt (f .rules) (f .goal) (f .terms) y a → SameIs us b a v z
+      left-same v z at i H us b a S C X Y =
+          let l = firsts us b a (L us b a S C X Y) in
+          let ok = both-true (termOk false (x .count) (l .u)) (termsOk false (x .count) (l .one)) (l .here .ok) .0 in
+          let ok′ = both-true (termOk false (y .count) (l .w)) (termsOk false (y .count) (l .two)) (l .there .ok) .0 in
+          let it = is-this v (l .u) (sym (at (l .u) (x .count) (first-stands (l .here .stands)) (part-small (bytesAt f x) (x .at) ex (S (x .source))) (l .here .few) ok) ∙ i) in
+          let there = H (l .w) (y .count) (first-stands (l .there .stands)) (part-small (bytesAt f y) (y .at) ey (S (y .source))) (l .there .few) ok′ in
+          go z (l .u) (l .w) it there (λ ds es m. l .implied ds es m .0)
+        where
+          go : (z : Value) (u w : Term) → u ≡ Term.v v → IsVariable w z → ((ds es : Bindings) → sameAtom (replacedAtom us ds b) (replacedAtom us es a) ≡ true → sameTerm (replaced us ds u) (replaced us es w) ≡ true) → SameIs us b a v z
+          go Val.Nothing u w it there same = tt
+          go (Val.Is n) u w it there same = λ ds es m. sym (ap (replaced us ds) it) ∙ same-terms-equal (replaced us ds u) (replaced us es w) (same ds es m) ∙ ap (replaced us es) there

@@ -1,2 +1,3 @@
+pub mod Beside
 pub mod Head
 pub mod Unset

@@ -1,6 +1,8 @@
-// Frames in which some variables are not set yet: whether a head may still be an atom, and which candidate the atom forces on a variable (document 02, Three).
+// Frames in which some variables are not set yet: whether a head may still be an atom, which candidate the atom forces on a variable, and which variables of the two stand beside each other (document 02, Three).
+mod beside;
 mod head;
 
+pub use beside::same_as;
 pub use head::candidate_at;
 pub use head::differs;
 pub use head::forced_by;

@@ -19,7 +19,7 @@ use Rattle.proving.proofs.ProvingLaws as laws
 use Rattle.proving.proofs.AtomLaws as atoms
 use Rattle.proving.proofs.PassingLaws as passing
 use Rattle.proving.proofs.FillLaws as filling
-use Rattle.proving.proofs.TriedLaws as tried
+use Rattle.narrowing.proofs.TriedLaws as tried
 use Rattle.proving.proofs.LocatingLaws as locating
 use borrow.Fn.Kinds.{In}
 use borrow.Fn.PlainCycle.{Measures, is, falls, and}
@@ -106,8 +106,8 @@ use Rattle.proving.proofs.match_head.Reads as match-head-reads
 use Rattle.proving.proofs.unset_all.Reads as unset-all-reads
 use Rattle.proving.proofs.word_of.Reads as word-of-reads
 use Rattle.provable.proofs.provable.is_due.Reads as is-due-reads
-use Rattle.proving.proofs.narrow_body.Reads as narrow-body-reads
-use Rattle.proving.proofs.is_left_out.Reads as is-left-out-reads
+use Rattle.narrowing.proofs.narrow_body.Reads as narrow-body-reads
+use Rattle.narrowing.proofs.is_left_out.Reads as is-left-out-reads
 use Rattle.equal.proofs.same_atoms.Reads as same-atoms-reads
 use Rattle.room.proofs.suppose.Reads as suppose-reads
 use Rattle.room.proofs.push.Reads as push-reads
@@ -1383,92 +1383,96 @@ through-with-returns-2 t c = let x = c .before .before .before .before .before .
     passing.with-goes (x .i) (x .nest) (c .before .before .before .before .before .before .before .before .before .before .before .may-use .result) (c .before .before .before .before .before .before .before .before .before .before .before .may-use .ensures) (not-false (c .before .before .before .before .before .before .before .before .before .before .before .may-use .result) (c .before .before .before .before .before .before .before .before .before .before .if1 .left)) (c .before .before .before .deeper .ensures) (passing.passing-from (c .before .before .before .before .before .before .before .push .ensures ∙ ap (λ (j : ℕ). set (x .room .now) j (held (bindingWord (Candidate (x .i))))) (c .before .before .before .before .before .before .before .before .plus .ensures)) (c .before .before .through .ensures .0))
 
 abbrev try-all-Inv-loop : try-all-lts.InvT-loop
-try-all-Inv-loop rules goal terms room₀ w p v left marks narrowed n i₀ room i =
-    (i ≤ n) × ((length room ≡ length room₀) × filling.EachLeft (filesOf rules goal terms) room₀ w p v left room i)
+try-all-Inv-loop rules goal terms room₀ w p v left n marks narrowed i₀ room i =
+    (i ≤ n) × ((length room ≡ length room₀) × tried.EachFrom (filesOf rules goal terms) room₀ w p v left marks narrowed n room i)
 
 abbrev try-all-μ-loop : try-all-lts.MeasureT-loop
-try-all-μ-loop rules goal terms room₀ w p v left marks narrowed n i₀ room i = n - i
+try-all-μ-loop rules goal terms room₀ w p v left n marks narrowed i₀ room i = n - i
 
 -- src/provable.rt:526:67
-try-all-slice-aggregate-narrow-body : (t : ℕ) → try-all-lts.Need-slice-aggregate-narrow-body (narrow-body-reads.Asked, narrow-body-reads.Learnt, candidates-reads.Asked, candidates-reads.Learnt, is-left-out-reads.Asked, is-left-out-reads.Learnt, try-one-below t, try-one.Post, word-of-reads.Asked, word-of-reads.Learnt, push-reads.Asked, push-reads.Learnt) (try-all-at t) try-all.Post try-all-Inv-loop try-all-μ-loop
+try-all-slice-aggregate-narrow-body : (t : ℕ) → try-all-lts.Need-slice-aggregate-narrow-body (candidates-reads.Asked, candidates-reads.Learnt, narrow-body-reads.Asked, narrow-body-reads.Learnt, is-left-out-reads.Asked, is-left-out-reads.Learnt, try-one-below t, try-one.Post, word-of-reads.Asked, word-of-reads.Learnt, push-reads.Asked, push-reads.Learnt) (try-all-at t) try-all.Post try-all-Inv-loop try-all-μ-loop
 try-all-slice-aggregate-narrow-body t c = search needs
 
 -- src/provable.rt:526:9
-try-all-narrow-body-requires : (t : ℕ) → try-all-lts.Need-narrow-body-requires (narrow-body-reads.Asked, narrow-body-reads.Learnt, candidates-reads.Asked, candidates-reads.Learnt, is-left-out-reads.Asked, is-left-out-reads.Learnt, try-one-below t, try-one.Post, word-of-reads.Asked, word-of-reads.Learnt, push-reads.Asked, push-reads.Learnt) (try-all-at t) try-all.Post try-all-Inv-loop try-all-μ-loop
+try-all-narrow-body-requires : (t : ℕ) → try-all-lts.Need-narrow-body-requires (candidates-reads.Asked, candidates-reads.Learnt, narrow-body-reads.Asked, narrow-body-reads.Learnt, is-left-out-reads.Asked, is-left-out-reads.Learnt, try-one-below t, try-one.Post, word-of-reads.Asked, word-of-reads.Learnt, push-reads.Asked, push-reads.Learnt) (try-all-at t) try-all.Post try-all-Inv-loop try-all-μ-loop
 try-all-narrow-body-requires t c κs = search needs
 
 -- src/provable.rt:527:9
-try-all-candidates-requires : (t : ℕ) → try-all-lts.Need-candidates-requires (narrow-body-reads.Asked, narrow-body-reads.Learnt, candidates-reads.Asked, candidates-reads.Learnt, is-left-out-reads.Asked, is-left-out-reads.Learnt, try-one-below t, try-one.Post, word-of-reads.Asked, word-of-reads.Learnt, push-reads.Asked, push-reads.Learnt) (try-all-at t) try-all.Post try-all-Inv-loop try-all-μ-loop
+try-all-candidates-requires : (t : ℕ) → try-all-lts.Need-candidates-requires (candidates-reads.Asked, candidates-reads.Learnt, narrow-body-reads.Asked, narrow-body-reads.Learnt, is-left-out-reads.Asked, is-left-out-reads.Learnt, try-one-below t, try-one.Post, word-of-reads.Asked, word-of-reads.Learnt, push-reads.Asked, push-reads.Learnt) (try-all-at t) try-all.Post try-all-Inv-loop try-all-μ-loop
 try-all-candidates-requires t c κs = search needs
 
 -- src/provable.rt:529:5
-try-all-loop-holds : (t : ℕ) → try-all-lts.Need-loop-holds (narrow-body-reads.Asked, narrow-body-reads.Learnt, candidates-reads.Asked, candidates-reads.Learnt, is-left-out-reads.Asked, is-left-out-reads.Learnt, try-one-below t, try-one.Post, word-of-reads.Asked, word-of-reads.Learnt, push-reads.Asked, push-reads.Learnt) (try-all-at t) try-all.Post try-all-Inv-loop try-all-μ-loop
-try-all-loop-holds t c = (omega arith, (refl, filling.each-start (c .before .before .before .before .before .before .before .before .before .before .args .v)))
+try-all-loop-holds : (t : ℕ) → try-all-lts.Need-loop-holds (candidates-reads.Asked, candidates-reads.Learnt, narrow-body-reads.Asked, narrow-body-reads.Learnt, is-left-out-reads.Asked, is-left-out-reads.Learnt, try-one-below t, try-one.Post, word-of-reads.Asked, word-of-reads.Learnt, push-reads.Asked, push-reads.Learnt) (try-all-at t) try-all.Post try-all-Inv-loop try-all-μ-loop
+try-all-loop-holds t c = (omega arith, (refl, tried.from-start (c .before .before .before .before .before .before .before .before .before .before .before .before .args .v) (c .before .before .before .before .before .before .candidates .result)))
 
 -- src/provable.rt:530:34
-try-all-slice-aggregate-is-left-out : (t : ℕ) → try-all-lts.Need-slice-aggregate-is-left-out (narrow-body-reads.Asked, narrow-body-reads.Learnt, candidates-reads.Asked, candidates-reads.Learnt, is-left-out-reads.Asked, is-left-out-reads.Learnt, try-one-below t, try-one.Post, word-of-reads.Asked, word-of-reads.Learnt, push-reads.Asked, push-reads.Learnt) (try-all-at t) try-all.Post try-all-Inv-loop try-all-μ-loop
+try-all-slice-aggregate-is-left-out : (t : ℕ) → try-all-lts.Need-slice-aggregate-is-left-out (candidates-reads.Asked, candidates-reads.Learnt, narrow-body-reads.Asked, narrow-body-reads.Learnt, is-left-out-reads.Asked, is-left-out-reads.Learnt, try-one-below t, try-one.Post, word-of-reads.Asked, word-of-reads.Learnt, push-reads.Asked, push-reads.Learnt) (try-all-at t) try-all.Post try-all-Inv-loop try-all-μ-loop
 try-all-slice-aggregate-is-left-out t c = search needs
 
 -- src/provable.rt:530:12
-try-all-is-left-out-requires : (t : ℕ) → try-all-lts.Need-is-left-out-requires (narrow-body-reads.Asked, narrow-body-reads.Learnt, candidates-reads.Asked, candidates-reads.Learnt, is-left-out-reads.Asked, is-left-out-reads.Learnt, try-one-below t, try-one.Post, word-of-reads.Asked, word-of-reads.Learnt, push-reads.Asked, push-reads.Learnt) (try-all-at t) try-all.Post try-all-Inv-loop try-all-μ-loop
+try-all-is-left-out-requires : (t : ℕ) → try-all-lts.Need-is-left-out-requires (candidates-reads.Asked, candidates-reads.Learnt, narrow-body-reads.Asked, narrow-body-reads.Learnt, is-left-out-reads.Asked, is-left-out-reads.Learnt, try-one-below t, try-one.Post, word-of-reads.Asked, word-of-reads.Learnt, push-reads.Asked, push-reads.Learnt) (try-all-at t) try-all.Post try-all-Inv-loop try-all-μ-loop
 try-all-is-left-out-requires t c κs = search needs
 
 -- src/provable.rt:531:13
-try-all-add-i : (t : ℕ) → try-all-lts.Need-add-i (narrow-body-reads.Asked, narrow-body-reads.Learnt, candidates-reads.Asked, candidates-reads.Learnt, is-left-out-reads.Asked, is-left-out-reads.Learnt, try-one-below t, try-one.Post, word-of-reads.Asked, word-of-reads.Learnt, push-reads.Asked, push-reads.Learnt) (try-all-at t) try-all.Post try-all-Inv-loop try-all-μ-loop
+try-all-add-i : (t : ℕ) → try-all-lts.Need-add-i (candidates-reads.Asked, candidates-reads.Learnt, narrow-body-reads.Asked, narrow-body-reads.Learnt, is-left-out-reads.Asked, is-left-out-reads.Learnt, try-one-below t, try-one.Post, word-of-reads.Asked, word-of-reads.Learnt, push-reads.Asked, push-reads.Learnt) (try-all-at t) try-all.Post try-all-Inv-loop try-all-μ-loop
 try-all-add-i t c = search needs
 
 -- src/provable.rt:529:5
-try-all-loop-less : (t : ℕ) → try-all-lts.Need-loop-less (narrow-body-reads.Asked, narrow-body-reads.Learnt, candidates-reads.Asked, candidates-reads.Learnt, is-left-out-reads.Asked, is-left-out-reads.Learnt, try-one-below t, try-one.Post, word-of-reads.Asked, word-of-reads.Learnt, push-reads.Asked, push-reads.Learnt) (try-all-at t) try-all.Post try-all-Inv-loop try-all-μ-loop
+try-all-loop-less : (t : ℕ) → try-all-lts.Need-loop-less (candidates-reads.Asked, candidates-reads.Learnt, narrow-body-reads.Asked, narrow-body-reads.Learnt, is-left-out-reads.Asked, is-left-out-reads.Learnt, try-one-below t, try-one.Post, word-of-reads.Asked, word-of-reads.Learnt, push-reads.Asked, push-reads.Learnt) (try-all-at t) try-all.Post try-all-Inv-loop try-all-μ-loop
 try-all-loop-less t c = search needs
 
 -- src/provable.rt:529:5
-try-all-loop-again : (t : ℕ) → try-all-lts.Need-loop-again (narrow-body-reads.Asked, narrow-body-reads.Learnt, candidates-reads.Asked, candidates-reads.Learnt, is-left-out-reads.Asked, is-left-out-reads.Learnt, try-one-below t, try-one.Post, word-of-reads.Asked, word-of-reads.Learnt, push-reads.Asked, push-reads.Learnt) (try-all-at t) try-all.Post try-all-Inv-loop try-all-μ-loop
+try-all-loop-again : (t : ℕ) → try-all-lts.Need-loop-again (candidates-reads.Asked, candidates-reads.Learnt, narrow-body-reads.Asked, narrow-body-reads.Learnt, is-left-out-reads.Asked, is-left-out-reads.Learnt, try-one-below t, try-one.Post, word-of-reads.Asked, word-of-reads.Learnt, push-reads.Asked, push-reads.Learnt) (try-all-at t) try-all.Post try-all-Inv-loop try-all-μ-loop
 try-all-loop-again t c = let l = c .before .before .before .before .loop in
     let s = c .before .is-left-out .ensures (c .if1 .taken) in
-    (omega arith, (l .inv .1 .0, tried.each-skip (c .before .before .before .before .before .before .before .before .before .before .before .before .before .before .before .args .v) (l .i) (c .before .before .before .before .before .candidates .result) (c .before .before .before .loop-test .taken) (c .before .before .before .before .before .candidates .ensures) (l .inv .1 .1) (c .before .before .before .before .before .before .before .before .narrow-body .ensures (s .0)) (sym (try-all-slice-aggregate-is-left-out t (c .before .before))) (s .1)))
+    (omega arith, (l .inv .1 .0, tried.from-skip (c .before .before .before .before .before .before .before .before .before .before .before .before .before .before .before .before .before .args .v) (c .before .before .before .before .before .before .before .before .before .before .before .candidates .result) (l .i) (c .before .before .before .loop-test .taken) (l .inv .1 .1) (s .0) (sym (try-all-slice-aggregate-is-left-out t (c .before .before))) (s .1)))
 
 -- src/provable.rt:534:12
-try-all-try-one-requires : (t : ℕ) → try-all-lts.Need-try-one-requires (narrow-body-reads.Asked, narrow-body-reads.Learnt, candidates-reads.Asked, candidates-reads.Learnt, is-left-out-reads.Asked, is-left-out-reads.Learnt, try-one-below t, try-one.Post, word-of-reads.Asked, word-of-reads.Learnt, push-reads.Asked, push-reads.Learnt) (try-all-at t) try-all.Post try-all-Inv-loop try-all-μ-loop
-try-all-try-one-requires t c κs = (omega (arith, c .before .before .before .before .before .before .before .before .before .before .before .before .before .before .before .before .pre .0), tt)
+try-all-try-one-requires : (t : ℕ) → try-all-lts.Need-try-one-requires (candidates-reads.Asked, candidates-reads.Learnt, narrow-body-reads.Asked, narrow-body-reads.Learnt, is-left-out-reads.Asked, is-left-out-reads.Learnt, try-one-below t, try-one.Post, word-of-reads.Asked, word-of-reads.Learnt, push-reads.Asked, push-reads.Learnt) (try-all-at t) try-all.Post try-all-Inv-loop try-all-μ-loop
+try-all-try-one-requires t c κs = (omega (arith, c .before .before .before .before .before .before .before .before .before .before .before .before .before .before .before .before .before .before .pre .0), tt)
 
 -- src/provable.rt:535:13
-try-all-same-length : (t : ℕ) → try-all-lts.Need-same-length (narrow-body-reads.Asked, narrow-body-reads.Learnt, candidates-reads.Asked, candidates-reads.Learnt, is-left-out-reads.Asked, is-left-out-reads.Learnt, try-one-below t, try-one.Post, word-of-reads.Asked, word-of-reads.Learnt, push-reads.Asked, push-reads.Learnt) (try-all-at t) try-all.Post try-all-Inv-loop try-all-μ-loop
-try-all-same-length t c = c .before .before .before .try-one .kept .1 .1 .1 .0 ∙ c .before .before .before .before .before .before .before .before .before .loop .inv .1 .0
+try-all-same-length : (t : ℕ) → try-all-lts.Need-same-length (candidates-reads.Asked, candidates-reads.Learnt, narrow-body-reads.Asked, narrow-body-reads.Learnt, is-left-out-reads.Asked, is-left-out-reads.Learnt, try-one-below t, try-one.Post, word-of-reads.Asked, word-of-reads.Learnt, push-reads.Asked, push-reads.Learnt) (try-all-at t) try-all.Post try-all-Inv-loop try-all-μ-loop
+try-all-same-length t c = c .before .before .before .try-one .kept .1 .1 .1 .0 ∙ (c .before .before .before .before .before .before .before .before .before .loop .inv .1 .0 ∙ c .before .before .before .before .before .before .before .before .before .before .before .before .before .narrow-body .kept .1 .1 .1 .0)
 
 -- src/provable.rt:535:13
-try-all-returns : (t : ℕ) → try-all-lts.Need-returns (narrow-body-reads.Asked, narrow-body-reads.Learnt, candidates-reads.Asked, candidates-reads.Learnt, is-left-out-reads.Asked, is-left-out-reads.Learnt, try-one-below t, try-one.Post, word-of-reads.Asked, word-of-reads.Learnt, push-reads.Asked, push-reads.Learnt) (try-all-at t) try-all.Post try-all-Inv-loop try-all-μ-loop
+try-all-returns : (t : ℕ) → try-all-lts.Need-returns (candidates-reads.Asked, candidates-reads.Learnt, narrow-body-reads.Asked, narrow-body-reads.Learnt, is-left-out-reads.Asked, is-left-out-reads.Learnt, try-one-below t, try-one.Post, word-of-reads.Asked, word-of-reads.Learnt, push-reads.Asked, push-reads.Learnt) (try-all-at t) try-all.Post try-all-Inv-loop try-all-μ-loop
 try-all-returns t c = let l = c .before .before .before .before .before .before .before .before .before .loop in
-    filling.each-hit (c .before .before .before .before .before .before .before .before .before .before .before .before .before .before .before .before .before .before .before .before .args .v) (l .i) (c .before .before .before .before .before .before .before .before .before .before .candidates .result) (c .before .before .before .before .before .before .before .before .loop-test .taken) (c .before .before .before .before .before .before .before .before .before .before .candidates .ensures) (l .inv .1 .1) (l .inv .1 .0) (c .before .before .before .try-one .ensures) (c .if2 .taken)
+    let x = c .before .before .before .before .before .before .before .before .before .before .before .before .before .before .before .before .before .before .before .before .before .before .args in
+    let n = c .before .before .before .before .before .before .before .before .before .before .before .before .before .narrow-body in
+    filling.each-hit (x .v) (l .i) (c .before .before .before .before .before .before .before .before .before .before .before .before .before .before .before .before .candidates .result) (c .before .before .before .before .before .before .before .before .loop-test .taken) (c .before .before .before .before .before .before .before .before .before .before .before .before .before .before .before .before .candidates .ensures) (l .inv .1 .1 (x .room .now) (n .ensures) (n .kept .1 .1 .1 .0) (c .before .before .before .before .before .before .before .before .before .before .before .before .before .before .before .before .candidates .ensures)) (l .inv .1 .0 ∙ n .kept .1 .1 .1 .0) (c .before .before .before .try-one .ensures) (c .if2 .taken)
 
 -- src/provable.rt:537:9
-try-all-add-i-2 : (t : ℕ) → try-all-lts.Need-add-i-2 (narrow-body-reads.Asked, narrow-body-reads.Learnt, candidates-reads.Asked, candidates-reads.Learnt, is-left-out-reads.Asked, is-left-out-reads.Learnt, try-one-below t, try-one.Post, word-of-reads.Asked, word-of-reads.Learnt, push-reads.Asked, push-reads.Learnt) (try-all-at t) try-all.Post try-all-Inv-loop try-all-μ-loop
+try-all-add-i-2 : (t : ℕ) → try-all-lts.Need-add-i-2 (candidates-reads.Asked, candidates-reads.Learnt, narrow-body-reads.Asked, narrow-body-reads.Learnt, is-left-out-reads.Asked, is-left-out-reads.Learnt, try-one-below t, try-one.Post, word-of-reads.Asked, word-of-reads.Learnt, push-reads.Asked, push-reads.Learnt) (try-all-at t) try-all.Post try-all-Inv-loop try-all-μ-loop
 try-all-add-i-2 t c = search needs
 
 -- src/provable.rt:529:5
-try-all-loop-less-2 : (t : ℕ) → try-all-lts.Need-loop-less-2 (narrow-body-reads.Asked, narrow-body-reads.Learnt, candidates-reads.Asked, candidates-reads.Learnt, is-left-out-reads.Asked, is-left-out-reads.Learnt, try-one-below t, try-one.Post, word-of-reads.Asked, word-of-reads.Learnt, push-reads.Asked, push-reads.Learnt) (try-all-at t) try-all.Post try-all-Inv-loop try-all-μ-loop
+try-all-loop-less-2 : (t : ℕ) → try-all-lts.Need-loop-less-2 (candidates-reads.Asked, candidates-reads.Learnt, narrow-body-reads.Asked, narrow-body-reads.Learnt, is-left-out-reads.Asked, is-left-out-reads.Learnt, try-one-below t, try-one.Post, word-of-reads.Asked, word-of-reads.Learnt, push-reads.Asked, push-reads.Learnt) (try-all-at t) try-all.Post try-all-Inv-loop try-all-μ-loop
 try-all-loop-less-2 t c = search needs
 
 -- src/provable.rt:529:5
-try-all-loop-again-2 : (t : ℕ) → try-all-lts.Need-loop-again-2 (narrow-body-reads.Asked, narrow-body-reads.Learnt, candidates-reads.Asked, candidates-reads.Learnt, is-left-out-reads.Asked, is-left-out-reads.Learnt, try-one-below t, try-one.Post, word-of-reads.Asked, word-of-reads.Learnt, push-reads.Asked, push-reads.Learnt) (try-all-at t) try-all.Post try-all-Inv-loop try-all-μ-loop
+try-all-loop-again-2 : (t : ℕ) → try-all-lts.Need-loop-again-2 (candidates-reads.Asked, candidates-reads.Learnt, narrow-body-reads.Asked, narrow-body-reads.Learnt, is-left-out-reads.Asked, is-left-out-reads.Learnt, try-one-below t, try-one.Post, word-of-reads.Asked, word-of-reads.Learnt, push-reads.Asked, push-reads.Learnt) (try-all-at t) try-all.Post try-all-Inv-loop try-all-μ-loop
 try-all-loop-again-2 t c = let l = c .before .before .before .before .before .before .before .before .before .loop in
-    (omega arith, (c .before .before .before .try-one .kept .1 .1 .1 .0 ∙ l .inv .1 .0, filling.each-miss (c .before .before .before .before .before .before .before .before .before .before .before .before .before .before .before .before .before .before .before .before .args .v) (l .i) (c .before .before .before .before .before .before .before .before .before .before .candidates .result) (c .before .before .before .before .before .before .before .before .loop-test .taken) (c .before .before .before .before .before .before .before .before .before .before .candidates .ensures) (l .inv .1 .1) (l .inv .1 .0) (c .before .before .before .try-one .ensures) (c .if2 .left)))
+    (omega arith, (c .before .before .before .try-one .kept .1 .1 .1 .0 ∙ l .inv .1 .0, tried.from-miss (c .before .before .before .before .before .before .before .before .before .before .before .before .before .before .before .before .before .before .before .before .before .before .args .v) (c .before .before .before .before .before .before .before .before .before .before .before .before .before .before .before .before .candidates .result) (l .i) (c .before .before .before .before .before .before .before .before .loop-test .taken) (l .inv .1 .1) (l .inv .1 .0) (c .before .before .before .try-one .ensures) (c .if2 .left)))
 
 -- src/provable.rt:539:16
-try-all-word-of-requires : (t : ℕ) → try-all-lts.Need-word-of-requires (narrow-body-reads.Asked, narrow-body-reads.Learnt, candidates-reads.Asked, candidates-reads.Learnt, is-left-out-reads.Asked, is-left-out-reads.Learnt, try-one-below t, try-one.Post, word-of-reads.Asked, word-of-reads.Learnt, push-reads.Asked, push-reads.Learnt) (try-all-at t) try-all.Post try-all-Inv-loop try-all-μ-loop
+try-all-word-of-requires : (t : ℕ) → try-all-lts.Need-word-of-requires (candidates-reads.Asked, candidates-reads.Learnt, narrow-body-reads.Asked, narrow-body-reads.Learnt, is-left-out-reads.Asked, is-left-out-reads.Learnt, try-one-below t, try-one.Post, word-of-reads.Asked, word-of-reads.Learnt, push-reads.Asked, push-reads.Learnt) (try-all-at t) try-all.Post try-all-Inv-loop try-all-μ-loop
 try-all-word-of-requires t c κs = search needs
 
 -- src/provable.rt:539:5
-try-all-push-requires : (t : ℕ) → try-all-lts.Need-push-requires (narrow-body-reads.Asked, narrow-body-reads.Learnt, candidates-reads.Asked, candidates-reads.Learnt, is-left-out-reads.Asked, is-left-out-reads.Learnt, try-one-below t, try-one.Post, word-of-reads.Asked, word-of-reads.Learnt, push-reads.Asked, push-reads.Learnt) (try-all-at t) try-all.Post try-all-Inv-loop try-all-μ-loop
+try-all-push-requires : (t : ℕ) → try-all-lts.Need-push-requires (candidates-reads.Asked, candidates-reads.Learnt, narrow-body-reads.Asked, narrow-body-reads.Learnt, is-left-out-reads.Asked, is-left-out-reads.Learnt, try-one-below t, try-one.Post, word-of-reads.Asked, word-of-reads.Learnt, push-reads.Asked, push-reads.Learnt) (try-all-at t) try-all.Post try-all-Inv-loop try-all-μ-loop
 try-all-push-requires t c κs = search needs
 
 -- src/provable.rt:513:1
-try-all-same-length-2 : (t : ℕ) → try-all-lts.Need-same-length-2 (narrow-body-reads.Asked, narrow-body-reads.Learnt, candidates-reads.Asked, candidates-reads.Learnt, is-left-out-reads.Asked, is-left-out-reads.Learnt, try-one-below t, try-one.Post, word-of-reads.Asked, word-of-reads.Learnt, push-reads.Asked, push-reads.Learnt) (try-all-at t) try-all.Post try-all-Inv-loop try-all-μ-loop
-try-all-same-length-2 t c = c .before .before .push .kept .0 ∙ c .before .before .before .before .before .before .loop .inv .1 .0
+try-all-same-length-2 : (t : ℕ) → try-all-lts.Need-same-length-2 (candidates-reads.Asked, candidates-reads.Learnt, narrow-body-reads.Asked, narrow-body-reads.Learnt, is-left-out-reads.Asked, is-left-out-reads.Learnt, try-one-below t, try-one.Post, word-of-reads.Asked, word-of-reads.Learnt, push-reads.Asked, push-reads.Learnt) (try-all-at t) try-all.Post try-all-Inv-loop try-all-μ-loop
+try-all-same-length-2 t c = c .before .before .push .kept .0 ∙ (c .before .before .before .before .before .before .loop .inv .1 .0 ∙ c .before .before .before .before .before .before .before .before .before .before .narrow-body .kept .1 .1 .1 .0)
 
 -- src/provable.rt:513:1
-try-all-returns-2 : (t : ℕ) → try-all-lts.Need-returns-2 (narrow-body-reads.Asked, narrow-body-reads.Learnt, candidates-reads.Asked, candidates-reads.Learnt, is-left-out-reads.Asked, is-left-out-reads.Learnt, try-one-below t, try-one.Post, word-of-reads.Asked, word-of-reads.Learnt, push-reads.Asked, push-reads.Learnt) (try-all-at t) try-all.Post try-all-Inv-loop try-all-μ-loop
+try-all-returns-2 : (t : ℕ) → try-all-lts.Need-returns-2 (candidates-reads.Asked, candidates-reads.Learnt, narrow-body-reads.Asked, narrow-body-reads.Learnt, is-left-out-reads.Asked, is-left-out-reads.Learnt, try-one-below t, try-one.Post, word-of-reads.Asked, word-of-reads.Learnt, push-reads.Asked, push-reads.Learnt) (try-all-at t) try-all.Post try-all-Inv-loop try-all-μ-loop
 try-all-returns-2 t c = let l = c .before .before .before .before .before .before .loop in
-    filling.each-done (c .before .before .before .before .before .before .before .before .before .before .before .before .before .before .before .before .before .args .v) (l .i) (c .before .before .before .before .before .before .before .candidates .result) (c .before .before .before .before .before .loop-test .left) (c .before .before .before .before .before .before .before .candidates .ensures) (l .inv .1 .1) (l .inv .1 .0) (c .before .before .before .word-of .ensures) (c .before .before .push .ensures)
+    let x = c .before .before .before .before .before .before .before .before .before .before .before .before .before .before .before .before .before .before .before .args in
+    let n = c .before .before .before .before .before .before .before .before .before .before .narrow-body in
+    filling.each-done (x .v) (l .i) (c .before .before .before .before .before .before .before .before .before .before .before .before .before .candidates .result) (c .before .before .before .before .before .loop-test .left) (c .before .before .before .before .before .before .before .before .before .before .before .before .before .candidates .ensures) (l .inv .1 .1 (x .room .now) (n .ensures) (n .kept .1 .1 .1 .0) (c .before .before .before .before .before .before .before .before .before .before .before .before .before .candidates .ensures)) (l .inv .1 .0 ∙ n .kept .1 .1 .1 .0) (c .before .before .before .word-of .ensures) (c .before .before .push .ensures)
 
 -- src/provable.rt:557:9
 try-one-may-use-requires : (t : ℕ) → try-one-lts.Need-may-use-requires (may-use-reads.Asked, may-use-reads.Learnt, word-of-reads.Asked, word-of-reads.Learnt, push-reads.Asked, push-reads.Learnt, may-be-reads.Asked, may-be-reads.Learnt, body-below t, body.Post, fill-below t, fill.Post) (try-one-at t) try-one.Post
@@ -2098,10 +2102,10 @@ pub +ask+body+both+decide+each+fill+find-clause+fork+look+look-and+prove-all+pro
     (through-with-same-length-2 t)
     (through-with-returns-2 t))
     (λ t. try-all-lts.spec (
-      narrow-body-reads.Asked,
-      narrow-body-reads.Learnt,
       candidates-reads.Asked,
       candidates-reads.Learnt,
+      narrow-body-reads.Asked,
+      narrow-body-reads.Learnt,
       is-left-out-reads.Asked,
       is-left-out-reads.Learnt,
       try-one-below t,
@@ -2115,9 +2119,9 @@ pub +ask+body+both+decide+each+fill+find-clause+fork+look+look-and+prove-all+pro
     try-all.Post
     try-all-Inv-loop
     try-all-μ-loop
+    (try-all-candidates-requires t)
     (try-all-slice-aggregate-narrow-body t)
     (try-all-narrow-body-requires t)
-    (try-all-candidates-requires t)
     (try-all-loop-holds t)
     (try-all-slice-aggregate-is-left-out t)
     (try-all-is-left-out-requires t)

@@ -3,8 +3,8 @@ use mathlib.Core.Bool.{false≢true}
 use lib.ListN.{getD}
 use borrow.Author.Tests.{not-false, eqb-true}
 use borrow.Author.Needs.{needs}
-use Rattle.proving.proofs.tried.is_left_out.Statement.{statement}
-use Rattle.proving.proofs.tried.is_left_out.Tie as tie
+use Rattle.narrowing.proofs.tried.is_left_out.Statement.{statement}
+use Rattle.narrowing.proofs.tried.is_left_out.Tie as tie
 
 returns : tie.Need-returns
 returns c = λ z. absurd (false≢true z)

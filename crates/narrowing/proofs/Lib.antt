@@ -1,0 +1,2 @@
+pub mod TriedLaws
+pub mod RuleLaws
