@@ -169,8 +169,8 @@ module _ (s : List ℕ) (at depth nest : ℕ) (p o : ℕ → Bool) where
   pub met-past : (r : Met) {b : Bool} {n : ℕ} → r ≡ M.Past b n → Meets s at depth nest p o r → PastBy s at depth nest p o b n
   met-past r e h = subst (Meets s at depth nest p o) e h
 
-  pub met-nothing : (r : Met) → r ≡ M.Nothing → Meets s at depth nest p o r → Holding s at depth nest p false
-  met-nothing r e h = let none = subst (Meets s at depth nest p o) e h in holding s at depth nest p false (λ x g n l m. absurd (none x g n))
+  pub met-nothing : (r : Met) → r ≡ M.Nothing → Meets s at depth nest p o r → (q : ℕ → Bool) → Holding s at depth nest q false
+  met-nothing r e h q = let none = subst (Meets s at depth nest p o) e h in holding s at depth nest q false (λ x g n l m. absurd (none x g n))
 
   module _ {b : Bool} (e : b ≡ eqb (getD s at 0) 40) (f : b ≡ true) where
     opens : getD s at 0 ≡ 40

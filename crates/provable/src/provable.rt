@@ -3,8 +3,10 @@
 use equal::same_atoms;
 use harrop::Binding;
 use heads::has_head;
+use held::Met;
 use held::holds;
 use held::is_open;
+use held::meets;
 use keys::both_keys;
 use keys::next_clause;
 use narrowing::is_left_out;
@@ -453,13 +455,17 @@ fn is_due<'a>(
     let x = w.goal;
     let source = x.source;
     let s = part(rules, goal, terms, source, x.at);
-    if holds(s, 0, 0, 64, room, w.goal, own, false, v) {
-        return false;
-    }
     if !also {
+        if holds(s, 0, 0, 64, room, w.goal, own, false, v) {
+            return false;
+        }
         return true;
     }
-    holds(s, 0, 0, 64, room, w.goal, own, true, v)
+    match meets(s, 0, 0, 64, room, w.goal, own, false, v) {
+        Met::Asked => false,
+        Met::Past(with, _) => with,
+        Met::Nothing => false,
+    }
 }
 
 // A goal that is no `and`: nothing is asked of it while it holds an unset variable, or if it was looked at before.

@@ -59,7 +59,7 @@ returns-4 : tie.Need-returns-4
 returns-4 c = let x = c .before .before .before .before .before .before .before .args in
     let bs = bindingsAt (x .room .now) (x .x) in
     let p = asked (x .own) bs (x .also) (x .v) in
-    met-nothing (x .s .now) (x .at) (x .depth) (x .nest) p (asked (x .own) bs true (x .v)) (c .before .before .meets .result) (c .enum-told3 .given .1) (c .before .before .meets .ensures)
+    met-nothing (x .s .now) (x .at) (x .depth) (x .nest) p (asked (x .own) bs true (x .v)) (c .before .before .meets .result) (c .enum-told3 .given .1) (c .before .before .meets .ensures) p
 
 pub holds-spec : {M : Type 1} → statement M
 holds-spec =
