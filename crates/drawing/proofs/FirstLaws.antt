@@ -1,5 +1,5 @@
 -- The first option that has a proof (document 01, "Which strip the search writes"). A candidate by a loop that asks each in order: where the loop is, those before it did not do, so the first from here on is the first of all. A clause as crate provable finds it.
--- Each last law of three, and that of the clause, ends in the contract of a function of src/first.
+-- The last law of a loop, and that of the clause, ends in the contract of a function of src/first.
 use Prim.Native.Nat.{ℕ, zero, suc, _+_, _-_, _≤_, _<_}
 use native.Mathlib.Omega.{arith}
 use mathlib.Core.Path.{_≡_, refl, sym, _∙_, ap}
@@ -12,7 +12,7 @@ use borrow.Author.Tests.{ltb-true, ltb-false}
 use Rattle.basics.specs.Choice.{choose, nope}
 use Rattle.harrop.specs.declared.Binding.{Binding}
 use Rattle.harrop.specs.declared.Binding.the-variants.{Candidate}
-use Rattle.harrop.specs.Formula.{Term, Atom, Goal, Clause}
+use Rattle.harrop.specs.Formula.{Term, Atom, Clause}
 use Rattle.harrop.specs.Bindings.{Bindings}
 use Rattle.harrop.specs.Place.{Hand, Plain, listed}
 use Rattle.sexp.specs.Sexp.{nesting}
@@ -26,15 +26,14 @@ use Rattle.room.proofs.FrameLaws.{word-binding, bound-in}
 use Rattle.keys.specs.Keys.{AtomKeyAt, PredicateKeyAt}
 use Rattle.proving.specs.Provable.{candidateDoes, clauseDoes, serves}
 use Rattle.proving.specs.Stock.{Stock, Keeps}
-use Rattle.proving.specs.Proving.{Ready, Taken, ProvingWith, Finding, PassingWith, provesWith, passesWith}
+use Rattle.proving.specs.Proving.{Taken, Finding, PassingWith, passesWith}
 use Rattle.proving.specs.First.{numberOf}
 use Rattle.proving.specs.Filling.{LocatingAt, LocatingFirst}
 use Rattle.proving.proofs.StockLaws.{keeps-same, keeps-then}
-use Rattle.proving.proofs.ReadyLaws.{ready-kept}
 use Rattle.proving.proofs.AtomLaws.{numbers}
 use Rattle.proving.proofs.PassingLaws.{taken-kept}
 use Rattle.drawing.specs.Chosen.{firstYes, candidateFrom, clauseFrom}
-use Rattle.drawing.specs.Writing.{FirstWith, FirstClause, FirstThrough, NumberThrough}
+use Rattle.drawing.specs.Writing.{FirstClause, FirstThrough, NumberThrough}
 use Rattle.drawing.proofs.TakenLaws.{yes-here, yes-none}
 
 -- the numbers from j on, where j is known
@@ -61,12 +60,6 @@ yes-found t i r n l f h e = go (ltb r n) refl (sym (yes-skip t n r r 0 (omega ar
     go false q u = nope (sym (yes-none t r n (ltb-false r n q)) ∙ u)
 
 -- where the loop is: what is relied on is kept, and the first of all is the first from j on
-abbrev pub WithLeft : Files → List ℕ → Where → ℕ → List ℕ → ℕ → Type 0
-WithLeft f room w left now j =
-    (ds : List (Clause Plain)) (us : List Term) (o : List Plain) (c : Hand Plain) (bs : Bindings) (q : Plain) (g : Goal Plain) →
-    Ready f room ds us w (suc left) o c bs (Goal.some q g) →
-    Keeps (Stock f ds us (w .supposed) c) (w .supposed) (w .top) room now × (candidateFrom (listed us) o q (provesWith us left o c bs g) 0 ≡ candidateFrom (listed us) o q (provesWith us left o c bs g) j)
-
 abbrev pub ThroughLeft : Files → List ℕ → Where → Spot → ℕ → ℕ → List ℕ → ℕ → Type 0
 ThroughLeft f room w x nest left now j =
     (ds : List (Clause Plain)) (us : List Term) (o : List Plain) (c : Hand Plain) (bs : Bindings) (a : Atom) (q : Plain) (d : Clause Plain) (bs′ : Bindings) →
@@ -75,36 +68,6 @@ ThroughLeft f room w x nest left now j =
     Keeps (Stock f ds us (w .supposed) c) (w .supposed) (x .base + x .count) room now × (candidateFrom (listed us) o q (passesWith us left o c bs a d bs′) 0 ≡ candidateFrom (listed us) o q (passesWith us left o c bs a d bs′) j)
 
 module _ {f : Files} {room : List ℕ} {w : Where} {left : ℕ} where
-  -- the candidates for a `some`
-  pub with-start : WithLeft f room w left room 0
-  with-start ds us o c bs q g r = (keeps-same room, refl)
-
-  pub with-miss : {now after : List ℕ} {s : Bool} (j n : ℕ) → j < n → n ≡ getD room candidatesWord 0 → WithLeft f room w left now j → length now ≡ length room → ProvingWith f now after w j left s → s ≡ false → WithLeft f room w left after (j + 1)
-  unfolding candidateFrom
-  with-miss {now} {after} {s} j n l e inv k p z ds us o c bs q g r =
-      let (kept, so) = inv ds us o c bs q g r in
-      let a = p ds us o c bs q g (ready-kept kept k r) in
-      let b : j < length us = omega (arith, r .place .booked .candidates .counted) in
-      (keeps-then room now after (omega arith) (omega arith) kept (a .kept), so ∙ yes-on (candidateDoes (listed us) o q (provesWith us left o c bs g)) j (length us) s b (a .answer) z)
-
-  pub with-hit : {now after : List ℕ} {s : Bool} (j n : ℕ) → j < n → n ≡ getD room candidatesWord 0 → WithLeft f room w left now j → length now ≡ length room → ProvingWith f now after w j left s → s ≡ true → FirstWith f room after w left j
-  unfolding candidateFrom
-  with-hit {now} {after} {s} j n l e inv k p z ds us o c bs q g i r h =
-      let (kept, so) = inv ds us o c bs q g r in
-      let a = p ds us o c bs q g (ready-kept kept k r) in
-      let b : j < length us = omega (arith, r .place .booked .candidates .counted) in
-      record {
-        kept = keeps-then room now after (omega arith) (omega arith) kept (a .kept);
-        done = yes-at (candidateDoes (listed us) o q (provesWith us left o c bs g)) i j (length us) s b (a .answer) z (sym so ∙ h);
-      }
-
-  pub with-none : {now : List ℕ} (j n : ℕ) → n ≤ j → n ≡ getD room candidatesWord 0 → WithLeft f room w left now j → FirstWith f room now w left 0
-  unfolding candidateFrom
-  with-none j n l e inv ds us o c bs q g i r h =
-      let (kept, so) = inv ds us o c bs q g r in
-      let b : length us ≤ j = omega (arith, r .place .booked .candidates .counted) in
-      record { kept = kept; done = yes-past (candidateDoes (listed us) o q (provesWith us left o c bs g)) i j (length us) b (sym so ∙ h) }
-
   -- the clause for an atom, which crate provable finds by the numbers of the atom and of its predicate
   pub clause-found : {after : List ℕ} {predicate key r : ℕ} → PredicateKeyAt f (w .goal) predicate → AtomKeyAt f room (w .goal) key → Finding f room after w predicate key left r → FirstClause f room after w left r
   unfolding clauseFrom

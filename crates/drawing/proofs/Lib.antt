@@ -6,4 +6,5 @@ pub mod DrawLaws
 pub mod FirstLaws
 pub mod LocatedLaws
 pub mod PathingLaws
+pub mod SomeLaws
 pub mod WritingLaws

@@ -106,7 +106,7 @@ drawn-as : {at : ℕ} {path path′ : List Step} {B B′ : Option Strip} {d d′
 drawn-as {at} {path′ = path′} {B = B} {d = d} {d′ = d′} {r = r} e q p = subst (λ (b : Option Strip). DrawsRest at path′ b d d′ r) q (subst (λ (y : List Step). DrawsRest at y B d d′ r) (sym e) p)
 
 -- the first number that answers yes does
-yes-does : (t : ℕ → Bool) (i n j : ℕ) → firstYes t i n ≡ some j → t j ≡ true
+pub yes-does : (t : ℕ → Bool) (i n j : ℕ) → firstYes t i n ≡ some j → t j ≡ true
 unfolding firstYes
 yes-does t i zero j e = nope e
 yes-does t i (suc n) j e = go (t i) refl e (λ u. yes-does t (suc i) n j u)

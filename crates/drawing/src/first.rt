@@ -4,7 +4,7 @@ use harrop::Binding;
 use keys::both_keys;
 use places::plus;
 use provable::find_clause;
-use provable::prove_with;
+use provable::prove_some;
 use provable::through_with;
 use proving::candidates;
 use room::Spot;
@@ -27,15 +27,10 @@ pub fn first_with<'a>(
 ) -> u32
     ensures { λ r. ⌜ FirstWith (filesOf (now (rules .entry)) (now (goal .entry)) (now (terms .entry))) (now (room .entry)) (now (room .exit)) w left r ⌝ }
 {
-    let n = candidates(room);
-    let mut i: u32 = 0;
-    while i < n {
-        if prove_with(rules, goal, terms, room, w, i, left) {
-            return i;
-        }
-        i += 1;
+    if !prove_some(rules, goal, terms, room, w, left) {
+        return 0;
     }
-    0
+    number(variable(room, w.top, 1, 0))
 }
 
 // The first clause at hand that serves an atom. If no `and` is on the way to its head, the numbers of the first path through it are left behind its frame.

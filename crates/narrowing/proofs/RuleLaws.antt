@@ -72,16 +72,16 @@ says-nothing room = record { kept = keeps-same room; told = λ e. absurd (false�
 
 -- the clause that the parts are of, once its own variables are unset, by what its body says
 through-body : {f : Files} {mid low after : List ℕ} {ds : List (Clause Plain)} {us : List Term} {w y : Where} {p : Parts} {left v u : ℕ} {o : List Plain} {c : Hand Plain} {bs : Bindings} {a : Atom} {e : Clause Plain} {bs′ : Bindings} {marks : List ℕ} {z : Value} {r : Bool}
-    → Starting f mid ds us w p left o c bs a e bs′ → Unsets mid low (p .head) (p .own) → p .body ≡ true → SameAs f (w .goal) (p .head) v z → z ≡ Val.Is u → y ≡ bodyPlace w p → NarrowsGoal f low after y (p .own) u left marks r
+    → Starting f mid ds us w p left o c bs a e bs′ → p .headed ≡ true → Unsets mid low (p .head) (p .own) → p .body ≡ true → SameAs f (w .goal) (p .head) v z → z ≡ Val.Is u → y ≡ bodyPlace w p → NarrowsGoal f low after y (p .own) u left marks r
     → Narrows (Stock f ds us (w .supposed) c) (w .supposed) (w .top) mid after r ((own i : ℕ) (es : Bindings) → Given us own v marks i bs es → passes us left o c es a (alls (p .own) e) bs′ ≡ false)
-through-body {f} {mid} {low} {after} {ds} {us} {w} {y} {p} {left} {v} {u} {o} {c} {bs} {a} {e} {bs′} {marks} {z} {r} t unset body same is at says = go e (start-filling t unset)
+through-body {f} {mid} {low} {after} {ds} {us} {w} {y} {p} {left} {v} {u} {o} {c} {bs} {a} {e} {bs′} {marks} {z} {r} t head unset body same is at says = go e (start-filling t unset)
   where
     go : (e : Clause Plain) → Filling f low ds us w p left o c bs a e (unsets (p .own) bs′) → Narrows (Stock f ds us (w .supposed) c) (w .supposed) (w .top) mid after r ((own i : ℕ) (es : Bindings) → Given us own v marks i bs es → passes us left o c es a (alls (p .own) e) bs′ ≡ false)
     go (Clause.atomD b) h = absurd (false≢true (sym (h .parts .0) ∙ body))
     go (Clause.impD g b) h =
         let n = subst (λ (q : Where). NarrowsGoal f low after q (p .own) u left marks r) at says ds us o c (unsets (p .own) bs′) g (filling-body h) in
         let place = h .ready .place in
-        let is-u = subst (SameIs us a b v) is (same low us a b (file-small (place .booked)) (place .booked .candidates) (atom-there h) (head-at h)) in
+        let is-u = subst (SameIs us a b v) is (same low us a b (file-small (place .booked)) (place .booked .candidates) (atom-there h head) (head-at h head)) in
         let ends = frame-ends h .1 in
         let high : w .top ≤ plus (p .goal .base) (p .goal .count) = omega (arith, h .parts .2 .base, h .parts .2 .count, h .fresh, ends) in
         record {
@@ -117,7 +117,7 @@ module _ {f : Files} {room mid : List ℕ} {w : Where} {own v left : ℕ} (k : �
         let found-at = parts .parts d shallow (clause-there t) few (omega arith) found in
         let plain = sym (parts .told d shallow (clause-there t) few (omega arith)) ∙ found in
         let many : p .own ≡ quantifiers d = omega (arith, found-at .own) in
-        let n = through-body (starting t found-at) unset body same is at says in
+        let n = through-body (starting t found-at) (found-at .headed) unset body same is at says in
         record {
           kept = keeps-then room mid after (omega arith) (omega arith) (there .kept) (n .kept);
           told = λ yes h m i es G.

@@ -3,7 +3,7 @@ mod provable;
 
 pub use provable::find_clause;
 pub use provable::prove_goal;
-pub use provable::prove_with;
+pub use provable::prove_some;
 pub use provable::through;
 pub use provable::through_with;
 pub use provable::use_clause;

@@ -1,6 +1,5 @@
 // Whether a goal has a proof within a height (document 01: "Proving a goal needs the proof of clause bodies, and those are goals again; the height left falls at each turn").
 // The search of a goal calls the search over the clauses at hand, each of which is taken apart from outside; that calls the search of a goal for the body, with one less.
-use equal::same_atoms;
 use harrop::Binding;
 use heads::has_head;
 use held::Met;
@@ -23,10 +22,13 @@ use proving::Chosen;
 use proving::Parts;
 use proving::body_place;
 use proving::candidates;
+use proving::chain_of;
 use proving::clauses;
 use proving::deeper;
+use proving::fits;
 use proving::is_fact;
-use proving::match_head;
+use proving::may_fit;
+use proving::meet;
 use proving::open_clause;
 use proving::parts_of;
 use proving::unset_all;
@@ -43,13 +45,12 @@ use table::forget;
 use table::keep;
 use table::recall;
 use table::slot_for;
-use unset::may_be;
 ghost use mathlib.Core.Path.{_≡_};
 ghost use mathlib.Core.Bool.{true};
 ghost use Rattle.packet.specs.declared.Word.the-variants as W;
 ghost use Rattle.room.specs.Where.{filesOf};
-ghost use Rattle.proving.specs.Proving.{Proving, ProvingAs, ProvingWith, ProvingBy, Finding, Deciding, Passing, PassingAs, PassingWith};
-ghost use Rattle.proving.specs.Filling.{PassingParts, Locating, LocatingAt, LocatingFirst, LookingBody, Looking, LookingAs, LookingOne, Dues, FillingFrom, FillingEach, FillingWith};
+ghost use Rattle.proving.specs.Proving.{Proving, ProvingAs, ProvingBy, Finding, Deciding, Passing, PassingAs, PassingWith};
+ghost use Rattle.proving.specs.Filling.{PassingParts, Locating, LocatingAt, LocatingFirst, LocatingSome, LookingBody, Looking, LookingAs, LookingOne, Dues, FillingFrom, FillingEach, FillingWith};
 
 // Whether the goal of a place has a proof of at most this height.
 pub fn prove_goal<'a>(
@@ -117,8 +118,8 @@ fn prove_or<'a>(
     prove_goal(rules, goal, terms, room, within(w, n), left)
 }
 
-// The part of a `some`, with the first candidate for which it has a proof.
-fn prove_some<'a>(
+// The goal inside a chain of `some`, its variables not set at first; each of the quantifiers takes one of the height. If yes, the numbers of the first candidates with which it has a proof are left on top of the stack.
+pub fn prove_some<'a>(
     rules: &'a [u8],
     goal: &'a [u8],
     terms: &'a [u8],
@@ -126,36 +127,13 @@ fn prove_some<'a>(
     w: Where,
     left: usize,
 ) -> bool
-    ensures { λ r. ⌜ ProvingAs W.Some (filesOf (now (rules .entry)) (now (goal .entry)) (now (terms .entry))) (now (room .entry)) (now (room .exit)) w left r ⌝ }
+    ensures { λ r. ⌜ ProvingAs W.Some (filesOf (now (rules .entry)) (now (goal .entry)) (now (terms .entry))) (now (room .entry)) (now (room .exit)) w left r × (r ≡ true → LocatingSome (filesOf (now (rules .entry)) (now (goal .entry)) (now (terms .entry))) (now (room .entry)) (now (room .exit)) w left) ⌝ }
 {
-    let n = candidates(room);
-    let mut i: u32 = 0;
-    while i < n {
-        if prove_with(rules, goal, terms, room, w, i, left) {
-            return true;
-        }
-        i += 1;
-    }
-    false
-}
-
-// The part of a `some` with candidate i, if it may be used.
-pub fn prove_with<'a>(
-    rules: &'a [u8],
-    goal: &'a [u8],
-    terms: &'a [u8],
-    room: &mut [u32],
-    w: Where,
-    i: u32,
-    left: usize,
-) -> bool
-    ensures { λ r. ⌜ ProvingWith (filesOf (now (rules .entry)) (now (goal .entry)) (now (terms .entry))) (now (room .entry)) (now (room .exit)) w i left r ⌝ }
-{
-    if !may_use(room, w.parameters, i as usize) {
+    let p = chain_of(rules, goal, terms, deeper(w.goal, 7), 1, 64);
+    if left < p.own {
         return false;
     }
-    push(room, w.top, Binding::Candidate(i));
-    prove_goal(rules, goal, terms, room, bound(w, 7, w.parameters), left)
+    start(rules, goal, terms, room, w, p, left - (p.own - 1))
 }
 
 // The part of an `all`, with one more parameter.
@@ -321,7 +299,7 @@ pub fn through<'a>(
     }
 }
 
-// A clause with no `and` on the way to its head, its variables not set yet.
+// A clause with no `and` on the way to its head, or what is inside a chain of `some`, its variables not set yet.
 fn start<'a>(
     rules: &'a [u8],
     goal: &'a [u8],
@@ -334,7 +312,7 @@ fn start<'a>(
     ensures { λ r. ⌜ PassingParts (filesOf (now (rules .entry)) (now (goal .entry)) (now (terms .entry))) (now (room .entry)) (now (room .exit)) w p left r ⌝ }
 {
     unset_all(room, p.head, p.own);
-    if !match_head(rules, goal, terms, room, w, p) {
+    if !meet(rules, goal, terms, room, w, p) {
         return false;
     }
     if !body(rules, goal, terms, room, w, p, false, 0, left) {
@@ -502,7 +480,7 @@ fn fill<'a>(
     ensures { λ r. ⌜ FillingFrom (filesOf (now (rules .entry)) (now (goal .entry)) (now (terms .entry))) (now (room .entry)) (now (room .exit)) w p k left r ⌝ }
 {
     if k == 0 {
-        return same_atoms(rules, goal, terms, room, p.head, w.goal);
+        return fits(rules, goal, terms, room, w, p);
     }
     if is_open(room, p.head, p.own, k - 1) {
         return try_all(rules, goal, terms, room, w, p, k - 1, left);
@@ -559,7 +537,7 @@ fn try_one<'a>(
         return false;
     }
     push(room, word_of(p.head, v), Binding::Candidate(i));
-    if !may_be(rules, goal, terms, room, p.head, w.goal, p.own) {
+    if !may_fit(rules, goal, terms, room, w, p) {
         return false;
     }
     if !body(rules, goal, terms, room, w, p, true, v, left) {

@@ -21,13 +21,13 @@ use Rattle.harrop.specs.Place.{Hand, Plain, listed, allowed}
 use Rattle.sexp.specs.declared.skip.After.{After}
 use Rattle.sexp.specs.declared.skip.After.the-variants as A
 use Rattle.sexp.specs.Past.{PastAt}
-use Rattle.sexp.specs.Sexp.{nesting}
+use Rattle.sexp.specs.Sexp.{Stands, nesting}
 use Rattle.packet.specs.declared.Word.{Word}
 use Rattle.packet.specs.declared.Word.the-variants as W
 use Rattle.reader.specs.WordAt.{WordAt}
 use Rattle.packet.specs.Table.{rank}
 use Rattle.packet.specs.Barred.{goalOk, atomOk, clauseOk}
-use Rattle.packet.specs.Written.{clauseSexp}
+use Rattle.packet.specs.Written.{atomSexp, goalSexp, clauseSexp}
 use Rattle.packet.specs.File.{mostBytes}
 use Rattle.rows.proofs.TableLaws.{out}
 use Rattle.room.specs.Layout.{levels, candidatesWord, highestWord, stack}
@@ -39,7 +39,7 @@ use Rattle.room.specs.declared.Spot.{Spot}
 use Rattle.room.specs.declared.Where.{Where}
 use Rattle.equal.proofs.AtomLaws.{same-there}
 use Rattle.room.proofs.FrameLaws.{frame-length, frames-alike, bound-in, binding-word}
-use Rattle.room.proofs.WhereLaws.{file-small}
+use Rattle.room.proofs.WhereLaws.{file-small, plus-inside}
 use Rattle.mentions.specs.Open.{unset, isUnset, isOpen, asked, Becomes}
 use Rattle.mentions.specs.Mentions.{mentionsGoal}
 use Rattle.heads.specs.Heads.{clauseWord}
@@ -47,23 +47,27 @@ use Rattle.heads.proofs.HeadLaws.{goal-says, goal-is, clause-says, heads, first
 use Rattle.held.specs.Held.{Holding}
 use Rattle.unset.specs.Unset.{MayBe}
 use Rattle.proving.specs.Stock.{Stock, Keeps}
-use Rattle.proving.specs.Proving.{Ready, Taken, Answers, Proving, Passing, passes}
-use Rattle.proving.specs.Parts.{PartsAt, PartsOf, CoreAt, isPlain, quantifiers, core, variableWord, bodyPlace}
+use Rattle.proving.specs.Provable.{provable}
+use Rattle.proving.specs.Hand.{deeper}
+use Rattle.proving.specs.Proving.{Ready, Taken, Answers, Proving, ProvingAs, Passing, passes}
+use Rattle.proving.specs.Parts.{PartsAt, PartsOf, CoreAt, isPlain, quantifiers, core, headOf, variableWord, bodyPlace}
 use Rattle.proving.specs.Frames.{alls, unsets, setTo, Completes}
 use Rattle.proving.specs.First.{FirstFrame, Forcing, Located}
-use Rattle.proving.specs.Filling.{Looks, Seen, Dues, BodySeen, Looking, LookingAs, LookingOne, PartsIn, Filling, floor, Unsets, Fillable, Settling, LookedAll, LookedNew, LookingBody, FillingFrom, FillingEach, LeavesBut, Filled, Fails, FilledWith, FillingWith, Starting, PassingParts}
+use Rattle.proving.specs.Filling.{Looks, Seen, Dues, BodySeen, Looking, LookingAs, LookingOne, HeadIn, PartsIn, Filling, MayFit, Fits, floor, Unsets, Fillable, Meeting, LookedAll, LookedNew, LookingBody, FillingFrom, FillingEach, LeavesBut, Filled, Fails, FilledWith, FillingWith, Starting, PassingParts, LocatingSome}
+use Rattle.proving.specs.Chain.{chain, inside, headless, ChainAt, ChainOf}
 use Rattle.proving.specs.declared.plain.Parts.{Parts}
 use Rattle.proving.proofs.StockLaws.{keeps-same, keeps-then, keeps-less}
 use Rattle.proving.proofs.ReadyLaws.{may-be, allowed-below, ready-kept, ready-part}
 use Rattle.proving.proofs.ProvingLaws.{bytesAt, both-of}
 use Rattle.proving.proofs.PassingLaws.{clause-there}
-use Rattle.proving.proofs.PlainLaws.{word-in, frame-set, others-stay, headOf, head-in, parts-over, frame-is, frame-many, frame-ends, head-at, atom-there, filling-kept, word-free, filling-set, filling-body, start-keeps, start-filling}
+use Rattle.proving.proofs.PlainLaws.{word-in, frame-set, others-stay, head-in, parts-over, frame-is, frame-many, frame-ends, filling-over, filling-kept, word-free, filling-set, filling-body, start-keeps, start-filling}
 use Rattle.proving.proofs.CompletesLaws.{unset-is, open-beyond, open-below, open-less, set-open, open-there, open-set, may-set, unsets-open}
 use Rattle.proving.proofs.LookedLaws.{looked-one, looks-low, looks-first, looks-second, looks-now}
 use Rattle.proving.proofs.FirstLaws.{unsets-length, forcing-start, located}
 use Rattle.proving.proofs.FillingLaws.{plain-is, alls-fillable, head-differs, body-lacks, set-goes, filled, filled-fillable, looked-all, looked-start}
 use Rattle.proving.proofs.FillingLaws as filling
-use Rattle.proving.proofs.SettleLaws.{has-head, head-no}
+use Rattle.proving.proofs.SettleLaws.{has-head}
+use Rattle.proving.proofs.ChainLaws.{inside-shallow, inside-ok, no-head, chain-is, chain-low}
 
 -- one of these numbers is no number outside
 one-differs : (ks : List ℕ) (x n : ℕ) → OneOf ks x → out ks n ≡ true → x ≡ n → ⊥
@@ -196,14 +200,12 @@ module _ {f : Files} {room : List ℕ} {w : Where} {p : Parts} {left : ℕ} wher
       go (Clause.andD d d′) t = absurd (t .parts)
 
   -- the frame filled: every variable is set, so the head decides, and all of the body was looked at
-  pub fill-end : {r : Bool} (k : ℕ) → k ≡ 0 → SameAtoms (f .rules) (f .goal) (f .terms) room (p .head) (w .goal) r → FillingFrom f room room w p k left r
-  fill-end {r} k z s ds us o c bs a e fr t l n looked =
-      let m = t .ready .place in
-      let h = head-in f room p e fr (t .parts) in (
+  pub fill-end : {r : Bool} (k : ℕ) → k ≡ 0 → Fits f room w p r → FillingFrom f room room w p k left r
+  fill-end {r} k z s ds us o c bs a e fr t l n looked = (
         record { kept = keeps-same room; whole = λ y i q. refl },
         subst (λ (y : ℕ). Filled us left o c bs a e (p .own) y fr (bindingsAt room (p .head)) r) {x = 0} {y = k} (sym z)
             (subst (λ (y : Bindings). Filled us left o c bs a e (p .own) 0 fr y r) (sym (frame-is t))
-            (filled us left o c bs a e (headOf e) (p .own) fr r (has-head f room p e fr (t .parts)) (λ i. n i (omega (arith, z))) looked (same-there us (headOf e) a r s (m .booked .candidates) (h .framed) (h .scoped) (m .framed) (m .scoped)))),
+            (filled us left o c bs a e (headOf e) (p .own) fr r (has-head f room p e fr (t .parts)) (λ i. n i (omega (arith, z))) looked (s ds us left o c bs a e fr t))),
       )
 
   -- variable k - 1 is unset, or it is set
@@ -233,7 +235,7 @@ unset-fits = omega arith
 
 module _ {f : Files} {room : List ℕ} {ds : List (Clause Plain)} {us : List Term} {w : Where} {p : Parts} {left : ℕ} {o : List Plain} {c : Hand Plain} {bs : Bindings} {a : Atom} {e : Clause Plain} {fr : Bindings} (t : Filling f room ds us w p left o c bs a e fr) where
   frame-above : stack ≤ p .head .base
-  frame-above = head-in f room p e fr (t .parts) .framed .above
+  frame-above = head-in f room p e fr (t .parts) .above
 
   module _ {v : ℕ} (l : v < p .own) where
     word-is : variableWord (p .head) v ≡ p .head .base + (p .head .count - 1 - v)
@@ -250,12 +252,9 @@ module _ {f : Files} {room : List ℕ} {ds : List (Clause Plain)} {us : List Ter
     module _ {now : List ℕ} (k : But (Stock f ds us (w .supposed) c) w p v room now) (n : length now ≡ length room) where
       filling-but : Filling f now ds us w p left o c bs a e (bindingsAt now (p .head))
       filling-but =
-          record {
-            ready = ready-kept (keeps-less room now (omega arith) (omega (arith, t .fresh)) (but-keeps k)) n (t .ready);
-            parts = parts-over f room now p e fr (bindingsAt now (p .head)) refl (frame-length now (p .head .base) (p .head .count) ∙ sym (frame-many t)) (t .parts);
-            own = t .own;
-            fresh = t .fresh;
-          }
+          filling-over t
+          (ready-kept (keeps-less room now (omega arith) (omega (arith, t .fresh)) (but-keeps k)) n (t .ready))
+          (parts-over f room now p e fr (bindingsAt now (p .head)) refl (frame-length now (p .head .base) (p .head .count) ∙ sym (frame-many t)) (t .parts))
 
       -- with the same binding for it the frame is the same
       but-set : (d : Binding) → bindingWord d ≤ 4294967295 → setTo v d (bindingsAt now (p .head)) ≡ setTo v d fr
@@ -393,12 +392,12 @@ module _ {f : Files} {room : List ℕ} {w : Where} {p : Parts} {left : ℕ} (v i
   used : {ds : List (Clause Plain)} {us : List Term} {o : List Plain} {c : Hand Plain} {bs : Bindings} {a : Atom} {e : Clause Plain} {fr : Bindings} (u : Bool) → u ≡ (ltb i (getD room candidatesWord 0) && leb (getD room (highestWord i) 0) (w .parameters)) → u ≡ true → Filling f room ds us w p left o c bs a e fr → allowed (listed us) o tt i ≡ true
   used {us = us} {o = o} u q y t = let m = t .ready .place in sym (may-be room (f .terms) us o tt i (w .parameters) (m .booked .candidates) (m .openly)) ∙ (sym q ∙ y)
 
-  pub with-head : {mid : List ℕ} {x : ℕ} {b : Bool} (u : Bool) → u ≡ (ltb i (getD room candidatesWord 0) && leb (getD room (highestWord i) 0) (w .parameters)) → u ≡ true → x ≡ variableWord (p .head) v → mid ≡ set room x (held (bindingWord (Candidate i))) → MayBe f mid (p .head) (w .goal) (p .own) b → b ≡ false → FillingWith f room mid w p v i left false
+  pub with-head : {mid : List ℕ} {x : ℕ} {b : Bool} (u : Bool) → u ≡ (ltb i (getD room candidatesWord 0) && leb (getD room (highestWord i) 0) (w .parameters)) → u ≡ true → x ≡ variableWord (p .head) v → mid ≡ set room x (held (bindingWord (Candidate i))) → MayFit f mid w p b → b ≡ false → FillingWith f room mid w p v i left false
   with-head {mid} u q y xe me m z ds us o c bs a e fr t l above looked =
       let ok = used u q y t in
       let (t′, but) = written t l (allowed-below us o tt i ok) xe me in (
         record { kept = but-keeps t l but; whole = λ k. but .words },
-        filling.with-fails us left o c bs a e (p .own) fr v i (bindingsAt mid (p .head)) (λ k. head-no t′ m z .no refl),
+        filling.with-fails us left o c bs a e (p .own) fr v i (bindingsAt mid (p .head)) (λ k. m ds us left o c bs a e (setTo v (Candidate i) fr) t′ z .no refl),
       )
 
   pub with-body : {mid after : List ℕ} {x : ℕ} {s : Bool} (u : Bool) → u ≡ (ltb i (getD room candidatesWord 0) && leb (getD room (highestWord i) 0) (w .parameters)) → u ≡ true → x ≡ variableWord (p .head) v → mid ≡ set room x (held (bindingWord (Candidate i))) → LookingBody f mid after w p true v left s → s ≡ false → FillingWith f room after w p v i left false
@@ -433,19 +432,19 @@ module _ {f : Files} {room : List ℕ} {w : Where} {p : Parts} {left : ℕ} wher
   plain-no {us = us} {o = o} {c = c} {bs = bs} {a = a} {e = e} {bs′ = bs′} t k n =
       (record { kept = k; answer = alls-fillable us left o c bs a (p .own) e bs′ false n }, λ z. absurd (false≢true z))
 
-  pub plain-settled : {mid after : List ℕ} {s : Bool} → Unsets room mid (p .head) (p .own) → Settling f mid after w p s → s ≡ false → PassingParts f room after w p left false
+  pub plain-settled : {mid after : List ℕ} {s : Bool} → Unsets room mid (p .head) (p .own) → Meeting f mid after w p s → s ≡ false → PassingParts f room after w p left false
   plain-settled {mid} {after} u m n ds us o c bs a e bs′ t =
       let (k, st) = m ds us left o c bs a e (unsets (p .own) bs′) (start-filling t u) in
       plain-no t (keeps-then room mid after (omega arith) (omega arith) (start-keeps t u) k) (st .no n)
 
-  pub plain-body : {mid late after : List ℕ} {s b : Bool} → Unsets room mid (p .head) (p .own) → Settling f mid late w p s → s ≡ true → LookingBody f late after w p false 0 left b → b ≡ false → PassingParts f room after w p left false
+  pub plain-body : {mid late after : List ℕ} {s b : Bool} → Unsets room mid (p .head) (p .own) → Meeting f mid late w p s → s ≡ true → LookingBody f late after w p false 0 left b → b ≡ false → PassingParts f room after w p left false
   plain-body {mid} {late} {after} u m y q z ds us o c bs a e bs′ t =
       let (k, st) = m ds us left o c bs a e (unsets (p .own) bs′) (start-filling t u) in
       let (fr, t′, forcing, back) = st .yes y in
       let b = q ds us o c bs a e fr t′ in
       plain-no t (keeps-then room late after (omega arith) (omega arith) (keeps-then room mid late (omega arith) (omega arith) (start-keeps t u) k) (b .kept)) (back false (b .no z))
 
-  pub plain-goes : {mid late last after : List ℕ} {s b r : Bool} → Unsets room mid (p .head) (p .own) → Settling f mid late w p s → s ≡ true → LookingBody f late last w p false 0 left b → b ≡ true → length last ≡ length late → FillingFrom f last after w p (p .own) left r → PassingParts f room after w p left r
+  pub plain-goes : {mid late last after : List ℕ} {s b r : Bool} → Unsets room mid (p .head) (p .own) → Meeting f mid late w p s → s ≡ true → LookingBody f late last w p false 0 left b → b ≡ true → length last ≡ length late → FillingFrom f last after w p (p .own) left r → PassingParts f room after w p left r
   plain-goes {mid} {late} {last} {after} {r = r} u m y q z len call ds us o c bs a e bs′ t =
       let (k, st) = m ds us left o c bs a e (unsets (p .own) bs′) (start-filling t u) in
       let (fr, t′, forcing, back) = st .yes y in
@@ -475,28 +474,40 @@ core-ok n (Clause.andD c d) e = subst (λ (m : ℕ). clauseOk m (Clause.andD c d
 module _ {f : Files} {room : List ℕ} {w : Where} {x : Spot} {p : Parts} {left : ℕ} where
   -- the parts found are where the clause starts
   pub starting : {ds : List (Clause Plain)} {us : List Term} {o : List Plain} {c : Hand Plain} {bs : Bindings} {a : Atom} {d : Clause Plain} {bs′ : Bindings} → Taken f room ds us w x left o c bs a d bs′ → PartsAt f x 0 d p → Starting f room ds us w p left o c bs a (core d) bs′
-  starting {d = d} {bs′ = bs′} t q =
+  starting {a = a} {d = d} {bs′ = bs′} t q =
       record {
+        asked = Goal.atom a;
         ready = t .ready;
+        atom = λ y. refl;
+        same = λ n. absurd (false≢true (sym n ∙ q .headed));
         holds = ap₂ (λ (b : ℕ) (n : ℕ). bindingsIn room b n) (q .base .0) (omega (arith, q .count .0, q .own)) ∙ t .framed .holds;
         own = omega (arith, q .count .0, q .own);
-        few = omega (arith, q .count .0, t .framed .shallow, core-shallow d);
+        above = omega (arith, q .base .0, t .framed .above);
         parts = λ after k. go after k (core d) (q .stands) (omega (arith, q .count .0, t .framed .shallow, core-shallow d)) scoped;
-        fresh = q .base .0 ∙ t .fresh;
+        fresh = omega (arith, q .base .0, t .fresh);
+        reach = omega (arith, q .base .0, t .fresh, few);
       }
     where
+      few : p .head .count ≤ levels
+      few = omega (arith, q .count .0, t .framed .shallow, core-shallow d)
+
+      head : (after : List ℕ) → bindingsAt after (p .head) ≡ unsets (p .own) bs′ → (b : Atom) → Stands (bytesAt f (p .head)) (p .head .at) (atomSexp b) → p .head .count + nesting (atomSexp b) ≤ levels → atomOk (length (unsets (p .own) bs′)) b ≡ true → HeadIn f after p b (unsets (p .own) bs′)
+      head after k b h l ok =
+          let above : stack ≤ p .head .base = omega (arith, q .base .0, t .framed .above) in
+          record { above = above; holds = k; shallow = few; framed = λ y. record { stands = h; above = above; below = omega arith; holds = k; shallow = l }; scoped = λ y. ok }
+
       scoped : clauseOk (length (unsets (p .own) bs′)) (core d) ≡ true
       scoped = subst (λ (n : ℕ). clauseOk n (core d) ≡ true) {x = quantifiers d + length bs′} {y = length (unsets (p .own) bs′)} (omega (arith, unsets-length (p .own) bs′, q .own)) (core-ok (length bs′) d (t .scoped))
 
       go : (after : List ℕ) → bindingsAt after (p .head) ≡ unsets (p .own) bs′ → (e : Clause Plain) → CoreAt f p e → p .head .count + nesting (clauseSexp e) ≤ levels → clauseOk (length (unsets (p .own) bs′)) e ≡ true → PartsIn f after p e (unsets (p .own) bs′)
       go after k (Clause.atomD b) h l ok =
-          (h .0, record { framed = record { stands = h .1; above = omega (arith, q .base .0, t .framed .above); below = omega arith; holds = k; shallow = l }; scoped = ok })
+          (h .0, head after k b (h .1) l ok)
       go after k (Clause.impD g b) h l ok =
           let (okg, okb) = both-of (goalOk (length (unsets (p .own) bs′)) g) (atomOk (length (unsets (p .own) bs′)) b) ok in
           let base = q .base .1 ∙ sym (q .base .0) in
           let count = q .count .1 ∙ sym (q .count .0) in (
             h .0,
-            record { framed = record { stands = h .1; above = omega (arith, q .base .0, t .framed .above); below = omega arith; holds = k; shallow = omega (arith, l) }; scoped = okb },
+            head after k b (h .1) (omega (arith, l)) okb,
             record {
               framed =
                   record {
@@ -539,3 +550,124 @@ module _ {f : Files} {room : List ℕ} {w : Where} {x : Spot} {p : Parts} {left 
       go (Clause.impD g b) e s = false≢true (sym e)
       go (Clause.allD z d) e s = all s
       go (Clause.andD d d′) e s = and s
+
+-- a goal that is a chain of `some`, what stands inside as the body of a clause with no head to compare
+module _ {f : Files} {room : List ℕ} {w : Where} {p : Parts} where
+  -- the chain found is where such a clause starts
+  chain-starting : {ds : List (Clause Plain)} {us : List Term} {o : List Plain} {c : Hand Plain} {bs : Bindings} {q : Plain} {g : Goal Plain} (left : ℕ) → Ready f room ds us w (suc left) o c bs (Goal.some q g) → ChainAt f (deeper (w .goal) 7) 1 g p → Starting f room ds us w p (left - chain g) o c bs headless (Clause.impD (inside g) headless) bs
+  chain-starting {ds} {us} {o} {c} {bs} {q} {g} left r t =
+      record {
+        asked = Goal.some q g;
+        ready =
+            record {
+              place = r .place;
+              enough =
+                  record {
+                    bindings = omega (arith, r .enough .bindings);
+                    supposed = omega (arith, r .enough .supposed);
+                    opened = omega (arith, r .enough .opened);
+                  };
+              long = r .long;
+              low = omega (arith, r .low);
+              stock = r .stock;
+            };
+        atom = λ y. absurd (false≢true (sym (t .headed) ∙ y));
+        same = λ n es. no-head us bs es;
+        holds = ap₂ (λ (b : ℕ) (n : ℕ). bindingsIn room b n) (t .base .0) (omega (arith, t .count .0, t .own, many)) ∙ r .place .framed .holds;
+        own = omega (arith, t .count .0, t .own, many);
+        above = omega (arith, t .base .0, r .place .framed .above);
+        parts = λ after k. (
+          t .body,
+          record {
+            above = omega (arith, t .base .0, r .place .framed .above);
+            holds = k;
+            shallow = few;
+            framed = λ y. absurd (false≢true (sym (t .headed) ∙ y));
+            scoped = λ y. absurd (false≢true (sym (t .headed) ∙ y));
+          },
+          record {
+            framed =
+                record {
+                  stands = t .stands;
+                  above = omega (arith, t .base .1, r .place .framed .above);
+                  below = omega (arith, base, count);
+                  holds = ap₂ (λ (y : ℕ) (n : ℕ). bindingsIn after y n) base count ∙ k;
+                  shallow = omega (arith, t .count .1, many, r .place .framed .shallow, inside-shallow g);
+                };
+            scoped = inside-ok (suc (length bs)) (length (unsets (p .own) bs)) g (omega (arith, unsets-length (p .own) bs, t .own)) (r .place .scoped);
+            base = base;
+            count = count;
+          },
+        );
+        fresh = omega (arith, t .base .0, t .count .0, t .own, many, r .place .tight);
+        reach = omega (arith, t .base .0, t .count .0, many, r .place .tight, few);
+      }
+    where
+      many : deeper (w .goal) 7 .count ≡ w .goal .count + 1
+      many = omega (arith, r .place .framed .shallow)
+
+      few : p .head .count ≤ levels
+      few = omega (arith, t .count .0, many, r .place .framed .shallow, inside-shallow g)
+
+      base : p .goal .base ≡ p .head .base
+      base = t .base .1 ∙ sym (t .base .0)
+
+      count : p .goal .count ≡ p .head .count
+      count = t .count .1 ∙ sym (t .count .0)
+
+  -- the chain that the code finds
+  chain-there : {x : Spot} {ds : List (Clause Plain)} {us : List Term} {o : List Plain} {c : Hand Plain} {bs : Bindings} {q : Plain} {g : Goal Plain} {h : ℕ} → x ≡ deeper (w .goal) 7 → ChainOf f x 1 64 p → Ready f room ds us w h o c bs (Goal.some q g) → ChainAt f (deeper (w .goal) 7) 1 g p
+  chain-there {g = g} i k r =
+      let st = first-part (octets "some") (heads .1 .1 .0) (r .place .framed .stands) in
+      let small = file-small (r .place .booked) (w .goal .source) in
+      subst (λ (x : Spot). ChainOf f x 1 64 p) i k .parts g (omega (arith, r .place .framed .shallow))
+      (record { stands = subst (λ (j : ℕ). Stands (bytesAt f (w .goal)) j (goalSexp g)) (sym (plus-inside (bytesAt f (w .goal)) (w .goal .at) 7 small st)) st; small = small })
+      (omega (arith, r .place .framed .shallow)) (omega arith)
+
+  -- its variables are on top of the stack
+  chain-floor : {ds : List (Clause Plain)} {us : List Term} {o : List Plain} {c : Hand Plain} {bs : Bindings} {q : Plain} {g : Goal Plain} {h : ℕ} → Ready f room ds us w h o c bs (Goal.some q g) → ChainAt f (deeper (w .goal) 7) 1 g p → floor p ≡ w .top
+  chain-floor r t =
+      let many : deeper (w .goal) 7 .count ≡ w .goal .count + 1 = omega (arith, r .place .framed .shallow) in
+      let others : p .head .count - p .own ≡ w .goal .count = omega (arith, t .count .0, t .own, many) in
+      ap₂ (λ (b : ℕ) (n : ℕ). b + n) (t .base .0) others ∙ r .place .tight
+
+  -- a height that the quantifiers use up
+  pub some-low : {x : Spot} (left : ℕ) → x ≡ deeper (w .goal) 7 → ChainOf f x 1 64 p → left < p .own → ProvingAs W.Some f room room w left false
+  some-low left i k l ds us o c bs g n r =
+      let (q, g′, m) = goal-is g n in
+      let t = chain-there i k (subst (Ready f room ds us w (suc left) o c bs) m r) in
+      record { kept = keeps-same room; answer = sym (ap (provable (listed us) (suc left) o c bs) m ∙ chain-low us o c (suc left) (Goal.some q g′) bs (omega (arith, t .own))) }
+
+  module _ {after : List ℕ} {x : Spot} {s : Bool} (left : ℕ) (i : x ≡ deeper (w .goal) 7) (k : ChainOf f x 1 64 p) (l : p .own ≤ left) (h : PassingParts f room after w p (left - (p .own - 1)) s) where
+    some-said : {ds : List (Clause Plain)} {us : List Term} {o : List Plain} {c : Hand Plain} {bs : Bindings} {q : Plain} {g : Goal Plain} → Ready f room ds us w (suc left) o c bs (Goal.some q g)
+        → Answers (Stock f ds us (w .supposed) c) (w .supposed) (w .top) room after (provable (listed us) (suc left) o c bs (Goal.some q g)) s
+        × (s ≡ true → Located us (suc left - chain (Goal.some q g)) o c bs headless (chain (Goal.some q g)) (Clause.impD (inside g) headless) bs after (w .top))
+    some-said {ds} {us} {o} {c} {bs} {q} {g} r =
+        let t = chain-there i k r in
+        let own : p .own ≡ suc (chain g) = omega (arith, t .own) in
+        let inner : left - (p .own - 1) ≡ suc left - suc (chain g) = omega (arith, own) in
+        let st = subst (λ (n : ℕ). Starting f room ds us w p n o c bs headless (Clause.impD (inside g) headless) bs) {x = left - chain g} {y = left - (p .own - 1)} (omega (arith, own)) (chain-starting left r t) in
+        let (a, b) = h ds us o c bs headless (Clause.impD (inside g) headless) bs st in
+        let floors = chain-floor r t in (
+          record {
+            kept = keeps-less room after (omega arith) (omega (arith, floors)) (a .kept);
+            answer =
+                a .answer
+                ∙ ap (λ (n : ℕ). passes us (left - (p .own - 1)) o c bs headless (alls n (Clause.impD (inside g) headless)) bs) own
+                ∙ chain-is us (left - (p .own - 1)) o c bs (suc left) (Goal.some q g) bs (omega (arith, own));
+          },
+          λ y.
+              subst (λ (n : ℕ). Located us n o c bs headless (suc (chain g)) (Clause.impD (inside g) headless) bs after (w .top)) inner
+              (subst (λ (n : ℕ). Located us (left - (p .own - 1)) o c bs headless n (Clause.impD (inside g) headless) bs after (w .top)) own
+              (subst (Located us (left - (p .own - 1)) o c bs headless (p .own) (Clause.impD (inside g) headless) bs after) floors (b y))),
+        )
+
+    pub some-goes : ProvingAs W.Some f room after w left s
+    some-goes ds us o c bs g n r =
+        let (q, g′, m) = goal-is g n in
+        subst (λ (z : Goal Plain). Ready f room ds us w (suc left) o c bs z → Answers (Stock f ds us (w .supposed) c) (w .supposed) (w .top) room after (provable (listed us) (suc left) o c bs z) s) (sym m) (λ r. some-said r .0) r
+
+    pub some-located : s ≡ true → LocatingSome f room after w left
+    some-located y ds us o c bs g n r =
+        let (q, g′, m) = goal-is g n in
+        subst (λ (z : Goal Plain). Ready f room ds us w (suc left) o c bs z → Located us (suc left - chain z) o c bs headless (chain z) (Clause.impD (inside z) headless) bs after (w .top)) (sym m) (λ r. some-said r .1 y) r

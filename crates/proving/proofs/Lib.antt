@@ -18,5 +18,6 @@ pub mod PassingLaws
 pub mod PlainLaws
 pub mod PartsLaws
 pub mod SettleLaws
+pub mod ChainLaws
 pub mod FillLaws
 pub mod LocatingLaws

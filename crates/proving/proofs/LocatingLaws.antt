@@ -17,7 +17,7 @@ use Rattle.room.proofs.FrameLaws.{frame-length}
 use Rattle.proving.specs.Hand.{Opened}
 use Rattle.proving.specs.Parts.{PartsOf, PlainAt, isPlain, quantifiers, core}
 use Rattle.proving.specs.First.{Located}
-use Rattle.proving.specs.Filling.{floor, PassingParts, Locating, LocatingAt, LocatingFirst}
+use Rattle.proving.specs.Filling.{floor, PassingParts, Locating, LocatingAt, LocatingFirst, LocatingSome}
 use Rattle.proving.specs.declared.Chosen.{Chosen}
 use Rattle.proving.specs.declared.Chosen.the-variants as C
 use Rattle.proving.specs.declared.plain.Parts.{Parts}
@@ -56,6 +56,10 @@ located-by {f} {room} {mid} {after} {w} {left} {y = y} k p e m z ds us o c bs a 
     let L = m ds us o c bs a (x .clause .clause) (x .clause .bindings) (x .taken) (ap (λ (g : AtHand Plain). isPlain (g .clause)) (sym same) ∙ plain) z in
     subst (λ (g : AtHand Plain). Located us left o c bs a (quantifiers (g .clause)) (core (g .clause)) (g .bindings) after (w .top + length (g .bindings))) (sym same)
     (subst (λ (n : ℕ). Located us left o c bs a (quantifiers (x .clause .clause)) (core (x .clause .clause)) (x .clause .bindings) after n) {x = y .base + y .count} {y = w .top + length (x .clause .bindings)} (omega (arith, x .taken .fresh, many)) L)
+
+-- and a `some` that has no proof
+pub located-no-some : {f : Files} {room after : List ℕ} {w : Where} {left : ℕ} → false ≡ true → LocatingSome f room after w left
+located-no-some y = absurd (false≢true y)
 
 -- the first clause that serves, by its number; past the last there is none
 module _ {f : Files} {room now : List ℕ} {w : Where} {predicate key left : ℕ} where

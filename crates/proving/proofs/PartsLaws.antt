@@ -91,11 +91,11 @@ module _ {f : Files} {x : Spot} {own nest : ℕ} {r : Parts} where
       go (Clause.andD c d) e = none-found f x own nest r (Clause.andD c d) (n .0) refl
 
 -- an atom
-pub parts-atom : {f : Files} {x : Spot} {own nest : ℕ} (k : Word) → WordAt (drop (x .at) (bytesAt f x)) 1 k → k ≡ W.Atom → PartsOf f x own nest (record { found = true; own = own; body = false; goal = x; head = x })
+pub parts-atom : {f : Files} {x : Spot} {own nest : ℕ} (k : Word) → WordAt (drop (x .at) (bytesAt f x)) 1 k → k ≡ W.Atom → PartsOf f x own nest (record { found = true; own = own; body = false; headed = true; goal = x; head = x })
 parts-atom {f} {x} {own} {nest} k q e = by-word k q (omega arith) λ d h.
     let (b, n) = clause-is d (h ∙ e) in
-    subst (Claim f x own nest (record { found = true; own = own; body = false; goal = x; head = x })) (sym n)
-    (λ l t s u. (refl, λ y. record { own = omega arith; base = (refl, refl); count = (omega arith, omega arith); stands = (refl, t .stands) }))
+    subst (Claim f x own nest (record { found = true; own = own; body = false; headed = true; goal = x; head = x })) (sym n)
+    (λ l t s u. (refl, λ y. record { headed = refl; own = omega arith; base = (refl, refl); count = (omega arith, omega arith); stands = (refl, t .stands) }))
 
 -- a goal that implies an atom
 pub parts-lost : {f : Files} {x : Spot} {own nest : ℕ} {r : Parts} {z : After} (k : Word) → WordAt (drop (x .at) (bytesAt f x)) 1 k → k ≡ W.Imp → PastAt (drop (x .at) (bytesAt f x)) 6 64 z → z ≡ A.Nothing → r .own ≡ 0 → PartsOf f x own nest r
@@ -110,16 +110,17 @@ part-there {f} {x} n {e} t i h =
     subst (λ (z : Spot). Stands (bytesAt f z) (z .at) e) (sym i)
     (subst (λ (j : ℕ). Stands (bytesAt f x) j e) (sym (plus-inside (bytesAt f x) (x .at) n (t .small) h)) h)
 
-pub parts-imp : {f : Files} {x u v : Spot} {own nest m : ℕ} {z : After} (k : Word) → WordAt (drop (x .at) (bytesAt f x)) 1 k → k ≡ W.Imp → PastAt (drop (x .at) (bytesAt f x)) 6 64 z → z ≡ A.Next m → u ≡ further x 6 → v ≡ further x m → PartsOf f x own nest (record { found = true; own = own; body = true; goal = u; head = v })
+pub parts-imp : {f : Files} {x u v : Spot} {own nest m : ℕ} {z : After} (k : Word) → WordAt (drop (x .at) (bytesAt f x)) 1 k → k ≡ W.Imp → PastAt (drop (x .at) (bytesAt f x)) 6 64 z → z ≡ A.Next m → u ≡ further x 6 → v ≡ further x m → PartsOf f x own nest (record { found = true; own = own; body = true; headed = true; goal = u; head = v })
 parts-imp {f} {x} {u} {v} {own} {nest} {m} k q e p z i j = by-word k q (omega arith) λ d h.
     let (g, b, n) = clause-is d (h ∙ e) in
-    subst (Claim f x own nest (record { found = true; own = own; body = true; goal = u; head = v })) (sym n)
+    subst (Claim f x own nest (record { found = true; own = own; body = true; headed = true; goal = u; head = v })) (sym n)
     (λ l t s y.
     let cu : u .count ≡ x .count = ap (λ (z : Spot). z .count) i in
     let cv : v .count ≡ x .count = ap (λ (z : Spot). z .count) j in (
       refl,
       λ w.
           record {
+            headed = refl;
             own = omega arith;
             base = (ap (λ (z : Spot). z .base) j, ap (λ (z : Spot). z .base) i);
             count = (omega arith, omega arith);
@@ -135,6 +136,7 @@ parts-imp {f} {x} {u} {v} {own} {nest} {m} k q e p z i j = by-word k q (omega ar
 inner-parts : {f : Files} {x : Spot} {own m : ℕ} {q : Plain} {d : Clause Plain} {r : Parts} → m ≡ own + 1 → x .count < mostBytes → PartsAt f (deeper x 6) m d r → PartsAt f x own (Clause.allD q d) r
 inner-parts e s t =
     record {
+      headed = t .headed;
       own = omega (arith, t .own);
       base = t .base;
       count = (omega (arith, t .count .0), omega (arith, t .count .1));

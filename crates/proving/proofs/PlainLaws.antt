@@ -28,7 +28,7 @@ use Rattle.mentions.specs.Open.{unset}
 use Rattle.keys.specs.Keys.{keyWord}
 use Rattle.proving.specs.Stock.{Stock, Keeps}
 use Rattle.proving.specs.Proving.{Ready}
-use Rattle.proving.specs.Parts.{variableWord, bodyPlace}
+use Rattle.proving.specs.Parts.{variableWord, bodyPlace, headOf}
 use Rattle.proving.specs.Frames.{unsets, setTo}
 use Rattle.proving.specs.Filling.{HeadIn, BodyIn, PartsIn, Filling, Unsets, Starting, floor}
 use Rattle.proving.specs.declared.plain.Parts.{Parts}
@@ -117,13 +117,6 @@ unset-more room now after x v y small i e u =
           others-stay now x v unset k (λ s. omega arith) ∙ u .above (omega arith) h k q;
     })
 
--- the head of the clause, with or without a body
-abbrev pub headOf : Clause Plain → Atom
-headOf (Clause.atomD b) = b
-headOf (Clause.impD g b) = b
-headOf (Clause.allD q d) = headOf d
-headOf (Clause.andD c d) = headOf c
-
 pub head-in : (f : Files) (room : List ℕ) (p : Parts) (e : Clause Plain) (fr : Bindings) → PartsIn f room p e fr → HeadIn f room p (headOf e) fr
 head-in f room p (Clause.atomD b) fr h = h .1
 head-in f room p (Clause.impD g b) fr h = h .1
@@ -138,7 +131,14 @@ parts-over f room after p e fr fr′ holds long = go e
     over k h = record { stands = h .stands; above = h .above; below = h .below; holds = k; shallow = h .shallow }
 
     head : (b : Atom) → HeadIn f room p b fr → HeadIn f after p b fr′
-    head b h = record { framed = over holds (h .framed); scoped = subst (λ (n : ℕ). atomOk n b ≡ true) (sym long) (h .scoped) }
+    head b h =
+        record {
+          above = h .above;
+          holds = holds;
+          shallow = h .shallow;
+          framed = λ y. over holds (h .framed y);
+          scoped = λ y. subst (λ (n : ℕ). atomOk n b ≡ true) (sym long) (h .scoped y);
+        }
 
     body : (g : Goal Plain) → BodyIn f room p g fr → BodyIn f after p g fr′
     body g h =
@@ -158,35 +158,40 @@ parts-over f room after p e fr fr′ holds long = go e
 module _ {f : Files} {room : List ℕ} {ds : List (Clause Plain)} {us : List Term} {w : Where} {p : Parts} {left : ℕ} {o : List Plain} {c : Hand Plain} {bs : Bindings} {a : Atom} {e : Clause Plain} {fr : Bindings} (t : Filling f room ds us w p left o c bs a e fr) where
   -- the frame, and how far it reaches: not to what the search keeps
   pub frame-is : bindingsAt room (p .head) ≡ fr
-  frame-is = head-in f room p e fr (t .parts) .framed .holds
+  frame-is = head-in f room p e fr (t .parts) .holds
 
   pub frame-many : length fr ≡ p .head .count
   frame-many = ap length (sym frame-is) ∙ frame-length room (p .head .base) (p .head .count)
 
   pub frame-ends : (p .head .count ≤ levels) × (p .head .base + p .head .count ≤ words) × (p .head .base + p .head .count ≤ keyWord 0)
   frame-ends =
-      let h = head-in f room p e fr (t .parts) .framed .shallow in
       let b = t .ready .enough .bindings in
-      let q = t .fresh in
-      (omega arith, omega arith, omega (arith, t .ready .low))
+      let q = t .reach in
+      (head-in f room p e fr (t .parts) .shallow, omega arith, omega (arith, t .ready .low))
 
-  -- the atoms, as the comparison of atoms asks for them
-  pub head-at : AtomAt (f .rules) (f .goal) (f .terms) (p .head) (headOf e)
-  head-at = let h = head-in f room p e fr (t .parts) in atom-at (headOf e) (h .framed) (h .scoped)
+  -- the atoms, as the comparison of atoms asks for them, where there is a head to compare
+  module _ (y : p .headed ≡ true) where
+    pub ready-atom : Ready f room ds us w (suc left) o c bs (Goal.atom a)
+    ready-atom = subst (Ready f room ds us w (suc left) o c bs) (t .atom y) (t .ready)
 
-  pub atom-there : AtomAt (f .rules) (f .goal) (f .terms) (w .goal) a
-  atom-there = atom-at a (t .ready .place .framed) (t .ready .place .scoped)
+    pub head-at : AtomAt (f .rules) (f .goal) (f .terms) (p .head) (headOf e)
+    head-at = let h = head-in f room p e fr (t .parts) in atom-at (headOf e) (h .framed y) (h .scoped y)
+
+    pub atom-there : AtomAt (f .rules) (f .goal) (f .terms) (w .goal) a
+    atom-there = atom-at a (ready-atom .place .framed) (ready-atom .place .scoped)
+
+  -- in another room, where the place and the parts stand
+  pub filling-over : {after : List ℕ} {fr′ : Bindings} → Ready f after ds us w (suc left) o c bs (t .asked) → PartsIn f after p e fr′ → Filling f after ds us w p left o c bs a e fr′
+  filling-over r q =
+      record { asked = t .asked; ready = r; atom = t .atom; same = t .same; parts = q; own = t .own; fresh = t .fresh; reach = t .reach }
 
   -- after a call that keeps what is below the frame's end
   pub filling-kept : {after : List ℕ} → Keeps (Stock f ds us (w .supposed) c) (w .supposed) (p .head .base + p .head .count) room after → length after ≡ length room → Filling f after ds us w p left o c bs a e fr
   filling-kept {after} k l =
-      let h = head-in f room p e fr (t .parts) .framed in
-      record {
-        ready = ready-kept (keeps-less room after (omega arith) (omega (arith, t .fresh)) k) l (t .ready);
-        parts = parts-over f room after p e fr fr (frames-alike after room (p .head .base) (p .head .base) (p .head .count) (λ i q. k .words (p .head .base + i) (Live.high (omega (arith, h .above)) (omega arith))) ∙ frame-is) refl (t .parts);
-        own = t .own;
-        fresh = t .fresh;
-      }
+      let h = head-in f room p e fr (t .parts) in
+      filling-over
+      (ready-kept (keeps-less room after (omega arith) (omega (arith, t .fresh)) k) l (t .ready))
+      (parts-over f room after p e fr fr (frames-alike after room (p .head .base) (p .head .base) (p .head .count) (λ i q. k .words (p .head .base + i) (Live.high (omega (arith, h .above)) (omega arith))) ∙ frame-is) refl (t .parts))
 
   -- with another binding for one of the clause's own variables
   module _ (v : ℕ) (d : Binding) (l : v < p .own) where
@@ -199,7 +204,7 @@ module _ {f : Files} {room : List ℕ} {ds : List (Clause Plain)} {us : List Ter
     pub write-keeps : Keeps (Stock f ds us (w .supposed) c) (w .supposed) (floor p) room (set room (variableWord (p .head) v) (held (bindingWord d)))
     write-keeps =
         let n = frame-ends in
-        let h = head-in f room p e fr (t .parts) .framed in
+        let h = head-in f room p e fr (t .parts) in
         record {
           words = below-stays room (p .head) (w .supposed) (p .own) v d l (t .own) (omega (arith, n .1)) (omega (arith, t .ready .enough .supposed)) (h .above);
           stock = word-free;
@@ -210,12 +215,9 @@ module _ {f : Files} {room : List ℕ} {ds : List (Clause Plain)} {us : List Ter
         let n = frame-ends in
         let after = set room (variableWord (p .head) v) (held (bindingWord d)) in
         let holds = frame-set room (p .head) v d (omega (arith, t .own)) (omega (arith, n .1, t .ready .long)) (omega (arith, n .1)) small ∙ ap (setTo v d) frame-is in
-        record {
-          ready = ready-kept (keeps-less room after (omega arith) (omega (arith, t .fresh)) write-keeps) (length-set room (variableWord (p .head) v) (held (bindingWord d))) (t .ready);
-          parts = parts-over f room after p e fr (setTo v d fr) holds (set-long v d fr) (t .parts);
-          own = t .own;
-          fresh = t .fresh;
-        }
+        filling-over
+        (ready-kept (keeps-less room after (omega arith) (omega (arith, t .fresh)) write-keeps) (length-set room (variableWord (p .head) v) (held (bindingWord d))) (t .ready))
+        (parts-over f room after p e fr (setTo v d fr) holds (set-long v d fr) (t .parts))
 
 -- the place of the body
 pub filling-body : {f : Files} {room : List ℕ} {ds : List (Clause Plain)} {us : List Term} {w : Where} {p : Parts} {left : ℕ} {o : List Plain} {c : Hand Plain} {bs : Bindings} {a : Atom} {g : Goal Plain} {b : Atom} {fr : Bindings} → Filling f room ds us w p left o c bs a (Clause.impD g b) fr → Ready f room ds us (bodyPlace w p) left o c fr g
@@ -232,16 +234,16 @@ filling-body {p = p} t =
             scoped = h .scoped;
             tight = top;
             openly = place .openly;
-            hand = hand-higher (omega (arith, t .fresh, top, h .base)) (place .hand);
+            hand = hand-higher (omega (arith, t .fresh, top, h .base, h .count)) (place .hand);
           };
       enough =
           record {
-            bindings = omega (arith, t .ready .enough .bindings, t .fresh, n .0, h .base, h .count);
+            bindings = omega (arith, t .ready .enough .bindings, t .reach, h .base, h .count);
             supposed = omega (arith, t .ready .enough .supposed);
             opened = omega (arith, t .ready .enough .opened);
           };
       long = t .ready .long;
-      low = omega (arith, t .ready .low, t .fresh, n .0, h .base, h .count);
+      low = omega (arith, t .ready .low, t .reach, h .base, h .count);
       stock = t .ready .stock;
     }
 
@@ -250,7 +252,7 @@ module _ {f : Files} {room after : List ℕ} {ds : List (Clause Plain)} {us : Li
   start-ends : (p .head .base + p .head .count ≤ length room) × (stack ≤ p .head .base)
   start-ends =
       let r = t .ready in
-      (omega (arith, t .fresh, t .few, r .enough .bindings, r .long), omega (arith, t .fresh, r .place .tight, r .place .framed .above))
+      (omega (arith, t .reach, r .enough .bindings, r .long), t .above)
 
   start-words : Kept (w .supposed) (floor p) room after
   start-words i (Live.low k) = let n = start-ends in u .kept (t .own) (n .0) i (omega (arith, n .1, t .ready .enough .supposed))
@@ -260,15 +262,19 @@ module _ {f : Files} {room after : List ℕ} {ds : List (Clause Plain)} {us : Li
   start-keeps =
       record {
         words = start-words;
-        stock = stock-low (u .long) (λ i k. u .above (t .own) (start-ends .0) i (omega (arith, t .fresh, t .few, t .ready .low)));
+        stock = stock-low (u .long) (λ i k. u .above (t .own) (start-ends .0) i (omega (arith, t .reach, t .ready .low)));
       }
 
   pub start-filling : Filling f after ds us w p left o c bs a e (unsets (p .own) bs′)
   start-filling =
       let holds = u .holds (t .own) (start-ends .0) ∙ ap (unsets (p .own)) (t .holds) in
       record {
+        asked = t .asked;
         ready = ready-kept (keeps-less room after (omega arith) (omega (arith, t .fresh)) start-keeps) (u .long) (t .ready);
+        atom = t .atom;
+        same = t .same;
         parts = t .parts after holds;
         own = t .own;
         fresh = t .fresh;
+        reach = t .reach;
       }

@@ -1,15 +1,14 @@
 -- Whether a goal has a proof, by its word: what the answers for its parts say of it, and that what its place relies on is kept (document 01, "Which strip the search writes").
 -- Each law ends in the contract of a function of crate provable, src/provable.
-use Prim.Native.Nat.{ℕ, suc, _+_, _-_, _≤_, _<_}
+use Prim.Native.Nat.{ℕ, suc, _+_, _-_, _≤_}
 use native.Mathlib.Omega.{arith}
 use mathlib.Core.Path.{_≡_, refl, sym, _∙_, ap, subst}
 use mathlib.Core.Bool.{Bool, true, false, _&&_, _||_}
 use mathlib.Core.List.{List, [], _∷_, _++_}
-use lib.Dec.{ltb, leb}
-use lib.ListN.{length, getD, drop, set}
+use lib.ListN.{length, drop, set}
 use Rattle.basics.specs.Choice.{both-true}
 use Rattle.basics.specs.Text.{octets}
-use Rattle.harrop.specs.declared.Binding.the-variants.{Candidate, Parameter}
+use Rattle.harrop.specs.declared.Binding.the-variants.{Parameter}
 use Rattle.harrop.specs.Formula.{Term, Goal, Clause}
 use Rattle.harrop.specs.Bindings.{Bindings}
 use Rattle.harrop.specs.Place.{Hand, Plain, listed}
@@ -24,7 +23,6 @@ use Rattle.rows.specs.declared.table.Row.the-variants as R
 use Rattle.rows.specs.Rows.{rowOf}
 use Rattle.packet.specs.Table.{dueAfter}
 use Rattle.packet.specs.Barred.{goalOk, clauseOk}
-use Rattle.room.specs.Layout.{candidatesWord, highestWord}
 use Rattle.room.specs.Frame.{bindingWord, held}
 use Rattle.room.specs.Spot.{fileOf, supposing}
 use Rattle.room.specs.Where.{Files, plus, further, within, bound, supposes}
@@ -33,11 +31,10 @@ use Rattle.room.specs.declared.Where.{Where}
 use Rattle.table.specs.Recall.{TableOnly, Forgets}
 use Rattle.proving.specs.Provable as spec
 use Rattle.proving.specs.Stock.{Stock, Keeps}
-use Rattle.proving.specs.Proving.{Ready, Answers, Proving, ProvingAs, ProvingWith, provesWith}
-use Rattle.proving.proofs.WalkLaws.{any-here, any-none}
+use Rattle.proving.specs.Proving.{Ready, Answers, Proving, ProvingAs}
 use Rattle.heads.proofs.HeadLaws.{goal-says, goal-is, goal-has-row, heads, first-part, second-found, first-found}
 use Rattle.proving.proofs.StockLaws.{keeps-same, keeps-then, keeps-push}
-use Rattle.proving.proofs.ReadyLaws.{may-be, allowed-below, ready-kept, ready-part, ready-with, ready-all, ready-under, under-keeps}
+use Rattle.proving.proofs.ReadyLaws.{ready-kept, ready-part, ready-all, ready-under, under-keeps}
 
 -- the file of a spot
 abbrev pub bytesAt : Files → Spot → List ℕ
@@ -70,13 +67,6 @@ both-of a b e = both-true a b e
 -- what is claimed of a goal
 abbrev pub Claim : Files → List ℕ → List ℕ → List (Clause Plain) → List Term → Where → ℕ → List Plain → Hand Plain → Bindings → Bool → Goal Plain → Type 0
 Claim f room after ds us w h o c bs r g = Ready f room ds us w h o c bs g → Answers (Stock f ds us (w .supposed) c) (w .supposed) (w .top) room after (spec.provable (listed us) h o c bs g) r
-
--- where the loop over candidates is: what the place relies on is kept, and those from i on decide
-abbrev pub SomeLeft : Files → List ℕ → Where → ℕ → List ℕ → ℕ → Type 0
-SomeLeft f room w left now i =
-    (ds : List (Clause Plain)) (us : List Term) (o : List Plain) (c : Hand Plain) (bs : Bindings) (q : Plain) (g : Goal Plain) →
-    Ready f room ds us w (suc left) o c bs (Goal.some q g) →
-    Keeps (Stock f ds us (w .supposed) c) (w .supposed) (w .top) room now × (spec.provable (listed us) (suc left) o c bs (Goal.some q g) ≡ spec.candidatesFrom (listed us) o q (provesWith us left o c bs g) i)
 
 module _ {f : Files} {room : List ℕ} {w : Where} where
   -- no height, no proof
@@ -200,56 +190,3 @@ module _ {f : Files} {room : List ℕ} {w : Where} where
         let xs : Hand Plain = record { clause = d; bindings = bs } ∷ [] in
         let a = proving-at i p ds us o (c ++ xs) bs x (ready-under r 6 k d x z (first-part (octets "imp") (heads .1 .1 .1 .1) st) (omega arith) okd (second-found (octets "imp") (heads .1 .1 .1 .1) st u e) (omega arith) ok only gone) in
         record { kept = under-keeps r 6 xs z only gone (a .kept); answer = a .answer })
-
-    -- a `some`: candidate i
-    pub with-barred : (i : ℕ) (t : Bool) → t ≡ (ltb i (getD room candidatesWord 0) && leb (getD room (highestWord i) 0) (w .parameters)) → t ≡ false → ProvingWith f room room w i left false
-    unfolding spec.candidateDoes
-    with-barred i t e n ds us o c bs q g r =
-        record { kept = keeps-same room; answer = and-no (provesWith us left o c bs g i) (e ∙ may-be room (f .terms) us o q i (w .parameters) (r .place .booked .candidates) (r .place .openly)) n }
-
-    pub with-goes : {after : List ℕ} {v : Where} {s : Bool} (i : ℕ) (t : Bool) → t ≡ (ltb i (getD room candidatesWord 0) && leb (getD room (highestWord i) 0) (w .parameters)) → t ≡ true → v ≡ bound w 7 (w .parameters) → Proving f (set room (w .top) (held (bindingWord (Candidate i)))) after v left s → ProvingWith f room after w i left s
-    unfolding spec.candidateDoes
-    with-goes {after} i t e n j p ds us o c bs q g r =
-        let m = e ∙ may-be room (f .terms) us o q i (w .parameters) (r .place .booked .candidates) (r .place .openly) in
-        let a = proving-at j p ds us o c (Candidate i ∷ bs) g (ready-with r 7 i g (first-part (octets "some") (heads .1 .1 .0) (r .place .framed .stands)) (omega arith) (r .place .scoped) (allowed-below us o q i (sym m ∙ n))) in
-        record {
-          kept = keeps-then room (set room (w .top) (held (bindingWord (Candidate i)))) after (omega arith) (omega (arith, r .enough .bindings)) (keeps-push room (w .supposed) (w .top) (held (bindingWord (Candidate i))) (omega (arith, r .enough .supposed)) (omega (arith, r .place .framed .above, r .place .tight)) (omega (arith, r .low))) (a .kept);
-          answer = and-yes m n (a .answer);
-        }
-
-    -- the candidates one after the other
-    pub some-start : SomeLeft f room w left room 0
-    unfolding spec.provable
-    some-start ds us o c bs q g r = (keeps-same room, refl)
-
-    pub some-miss : {now after : List ℕ} {s : Bool} (i n : ℕ) → i < n → n ≡ getD room candidatesWord 0 → SomeLeft f room w left now i → length now ≡ length room → ProvingWith f now after w i left s → s ≡ false → SomeLeft f room w left after (i + 1)
-    unfolding spec.candidatesFrom
-    some-miss {now} {after} i n l e inv k p z ds us o c bs q g r =
-        let (kept, so) = inv ds us o c bs q g r in
-        let a = p ds us o c bs q g (ready-kept kept k r) in
-        let b : i < length us = omega (arith, r .place .booked .candidates .counted) in
-        let try : ℕ → Bool = spec.candidateDoes (listed us) o q (provesWith us left o c bs g) in
-        (keeps-then room now after (omega arith) (omega arith) kept (a .kept), so ∙ (any-here try i (length us) b ∙ sym (or-no (a .answer) z refl)))
-
-    pub some-hit : {now after : List ℕ} {s : Bool} (i n : ℕ) → i < n → n ≡ getD room candidatesWord 0 → SomeLeft f room w left now i → length now ≡ length room → ProvingWith f now after w i left s → s ≡ true → ProvingAs W.Some f room after w left true
-    unfolding spec.candidatesFrom
-    some-hit {now} {after} i n l e inv k p z ds us o c bs g h =
-        let (q, x, m) = goal-is g h in
-        subst (Claim f room after ds us w (suc left) o c bs true) (sym m)
-        (λ r.
-        let (kept, so) = inv ds us o c bs q x r in
-        let a = p ds us o c bs q x (ready-kept kept k r) in
-        let b : i < length us = omega (arith, r .place .booked .candidates .counted) in
-        let try : ℕ → Bool = spec.candidateDoes (listed us) o q (provesWith us left o c bs x) in
-        record { kept = keeps-then room now after (omega arith) (omega arith) kept (a .kept); answer = or-yes (spec.anyFrom try (i + 1) (length us - (i + 1))) (a .answer) z ∙ sym (so ∙ any-here try i (length us) b) })
-
-    pub some-done : {now : List ℕ} (i n : ℕ) → n ≤ i → n ≡ getD room candidatesWord 0 → SomeLeft f room w left now i → ProvingAs W.Some f room now w left false
-    unfolding spec.candidatesFrom
-    some-done {now} i n l e inv ds us o c bs g h =
-        let (q, x, m) = goal-is g h in
-        subst (Claim f room now ds us w (suc left) o c bs false) (sym m)
-        (λ r.
-        let (kept, so) = inv ds us o c bs q x r in
-        let b : length us ≤ i = omega (arith, r .place .booked .candidates .counted) in
-        let try : ℕ → Bool = spec.candidateDoes (listed us) o q (provesWith us left o c bs x) in
-        record { kept = kept; answer = sym (so ∙ any-none try i (length us) b) })

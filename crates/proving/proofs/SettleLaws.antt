@@ -25,7 +25,8 @@ use Rattle.room.specs.Where.{Files, further}
 use Rattle.room.specs.declared.Spot.{Spot}
 use Rattle.room.specs.declared.Where.{Where}
 use Rattle.room.proofs.WhereLaws.{file-small}
-use Rattle.equal.specs.Term.{TermAt}
+use Rattle.equal.specs.Term.{TermAt, SameAtoms}
+use Rattle.equal.proofs.AtomLaws.{same-there}
 use Rattle.heads.specs.Predicate.{bytesAt}
 use Rattle.mentions.specs.Open.{isOpen, Becomes}
 use Rattle.keys.proofs.WalkLaws.{candidate-meant}
@@ -35,16 +36,16 @@ use Rattle.unset.specs.Unset.{MayBe}
 use Rattle.unset.specs.Head.{DiffersAt, NoneOf, CandidateOf, CandidateAt, OpenAs, OpenAt}
 use Rattle.unset.proofs.HeadLaws.{LeftAt, lowest-means, left-beside}
 use Rattle.proving.specs.Stock.{Stock, Keeps}
-use Rattle.proving.specs.Parts.{variableWord}
+use Rattle.proving.specs.Parts.{variableWord, headOf}
 use Rattle.proving.specs.Proving.{passes}
 use Rattle.proving.specs.Frames.{setTo}
 use Rattle.proving.specs.First.{Forcing}
-use Rattle.proving.specs.Filling.{PartsIn, Filling, Fillable, Settled, Settling, floor}
+use Rattle.proving.specs.Filling.{PartsIn, Filling, Fillable, Settled, Settling, Meeting, MayFit, Fits, floor}
 use Rattle.proving.specs.Matching.{Beside, Matching, MatchingVariable}
 use Rattle.proving.specs.declared.plain.Parts.{Parts}
 use Rattle.proving.proofs.StockLaws.{keeps-same, keeps-then}
 use Rattle.proving.proofs.ReadyLaws.{may-be, allowed-below}
-use Rattle.proving.proofs.PlainLaws.{headOf, frame-is, head-at, atom-there, write-keeps, filling-set}
+use Rattle.proving.proofs.PlainLaws.{head-in, frame-is, ready-atom, head-at, atom-there, write-keeps, filling-set}
 use Rattle.proving.proofs.CompletesLaws.{open-below, completes-becomes}
 use Rattle.proving.proofs.FirstLaws.{forcing-set}
 use Rattle.proving.proofs.FillingLaws.{HeadOf, refuted, head-yes, head-differs, never-fills, forced-set, forced-barred, forced-never}
@@ -85,12 +86,12 @@ module _ {f : Files} {room : List ℕ} {ds : List (Clause Plain)} {us : List Ter
       )
 
   -- the head cannot become the atom
-  pub head-no : Filling f room ds us w p left o c bs a e fr → {b : Bool} → MayBe f room (p .head) (w .goal) (p .own) b → b ≡ false → Fillable us left o c bs a e (p .own) fr false
-  head-no t h n =
+  head-no : Filling f room ds us w p left o c bs a e fr → p .headed ≡ true → {b : Bool} → MayBe f room (p .head) (w .goal) (p .own) b → b ≡ false → Fillable us left o c bs a e (p .own) fr false
+  head-no t y h n =
       let q = t .ready .place in
       head-differs us left o c bs a e (p .own) fr (headOf e) (has-head f room p e fr (t .parts)) (λ ds′ m.
-      ap (λ (y : Bindings). sameAtom (replacedAtom us ds′ (headOf e)) (replacedAtom us y a)) (sym (q .framed .holds))
-      ∙ h us (headOf e) a (λ s. file-small (q .booked) s) (q .booked .candidates) (head-at t) (atom-there t) n ds′ (subst (λ (y : Bindings). Becomes us (p .own) y ds′) (sym (frame-is t)) m))
+      ap (λ (z : Bindings). sameAtom (replacedAtom us ds′ (headOf e)) (replacedAtom us z a)) (sym (q .framed .holds))
+      ∙ h us (headOf e) a (λ s. file-small (q .booked) s) (q .booked .candidates) (head-at t y) (atom-there t y) n ds′ (subst (λ (z : Bindings). Becomes us (p .own) z ds′) (sym (frame-is t)) m))
 
 -- a variable that is unset, by the lowest candidate that is the atom's term
 module _ {f : Files} {room : List ℕ} {w : Where} {p : Parts} {y : Spot} (v : ℕ) {z : Forced} (C : CandidateAt f room y z) where
@@ -157,25 +158,48 @@ module _ {f : Files} {room : List ℕ} {w : Where} {p : Parts} {x y : Spot} wher
 -- the whole head
 module _ {f : Files} {room : List ℕ} {w : Where} {p : Parts} where
   pub settle-start : Settling f room room w p true
-  settle-start ds us left o c bs a e fr t = open-still t
+  settle-start ds us left o c bs a e fr t y = open-still t
 
   -- what is found out of the head and the atom as they stood
   pub settle-may-be : {now : List ℕ} (d : Bool) → Settling f room now w p true → MayBe f room (p .head) (w .goal) (p .own) d → Settling f room now w p d
   settle-may-be true inv m = inv
-  settle-may-be false inv m = λ ds us left o c bs a e fr t. denied (inv ds us left o c bs a e fr t .0) (head-no t m refl)
+  settle-may-be false inv m = λ ds us left o c bs a e fr t y. denied (inv ds us left o c bs a e fr t y .0) (head-no t y m refl)
 
   -- the next argument
   pub settle-next : {now after s t : List ℕ} (i j : ℕ) {x y : Spot} {g h r : Bool} (q : Bool) → s ≡ drop (p .head .at) (bytesAt f (p .head)) → t ≡ drop (w .goal .at) (bytesAt f (w .goal)) → LeftAt f room (p .head) (w .goal) s t i j → g ≡ eqb (getD s i 0) 41 → g ≡ false → h ≡ eqb (getD t j 0) 41 → h ≡ false
       → Settling f room now w p true → x ≡ further (p .head) i → y ≡ further (w .goal) j → Matching f now after w p x y r → r ≡ q → Settling f room after w p q
-  settle-next {now} {after} i j {y = y} {r = r} z es et L ge gn he hn inv ex ey M v ds us left o c bs a e fr t =
+  settle-next {now} {after} i j {y = y} {r = r} z es et L ge gn he hn inv ex ey M v ds us left o c bs a e fr t k =
       let q = t .ready .place in
-      let l = left-beside f room (p .head) (w .goal) es et i j L ge gn he hn us (headOf e) a (λ s. file-small (q .booked) s) (q .booked .candidates) (head-at t) (atom-there t) in
+      let l = left-beside f room (p .head) (w .goal) es et i j L ge gn he hn us (headOf e) a (λ s. file-small (q .booked) s) (q .booked .candidates) (head-at t k) (atom-there t k) in
       let implied = subst (λ (z : Bindings). (ds : Bindings) → sameAtom (replacedAtom us ds (headOf e)) (replacedAtom us z a) ≡ true → sameTerm (replaced us ds (l .u)) (replaced us z (l .w)) ≡ true) (q .framed .holds) (l .implied) in
       let M′ = subst (λ (b : Bool). Matching f now after w p (further (p .head) i) (further (w .goal) j) b) v (subst (λ (n : Spot). Matching f now after w p (further (p .head) i) n r) ey (subst (λ (n : Spot). Matching f now after w p n y r) ex M)) in
-      decided-then (inv ds us left o c bs a e fr t) (λ fr′ t′. M′ ds us left o c bs a e fr′ (l .u) (l .w) t′ (record {
+      decided-then (inv ds us left o c bs a e fr t k) (λ fr′ t′. M′ ds us left o c bs a e fr′ (l .u) (l .w) t′ (record {
         here = l .here;
         there = l .there;
         frame = frame-is t′;
         around = t′ .ready .place .framed .holds;
-        same = λ es k. same-terms-equal (replaced us es (l .u)) (replaced us bs (l .w)) (implied es (head-yes us left o c bs a e (headOf e) es (has-head f room p e fr (t .parts)) k));
+        same = λ es h. same-terms-equal (replaced us es (l .u)) (replaced us bs (l .w)) (implied es (head-yes us left o c bs a e (headOf e) es (has-head f room p e fr (t .parts)) h));
       }))
+
+-- with or without a head to compare: at first, while a variable is tried, and where all are set
+module _ {f : Files} {room : List ℕ} {w : Where} {p : Parts} where
+  pub meet-none : Meeting f room room w p true
+  meet-none ds us left o c bs a e fr t = open-still t
+
+  pub meet-head : {after : List ℕ} {r : Bool} → p .headed ≡ true → Settling f room after w p r → Meeting f room after w p r
+  meet-head y m ds us left o c bs a e fr t = m ds us left o c bs a e fr t y
+
+  pub may-none : MayFit f room w p true
+  may-none ds us left o c bs a e fr t n = absurd (false≢true (sym n))
+
+  pub may-head : {b : Bool} → p .headed ≡ true → MayBe f room (p .head) (w .goal) (p .own) b → MayFit f room w p b
+  may-head y h ds us left o c bs a e fr t n = head-no t y h n
+
+  pub fits-none : p .headed ≡ false → Fits f room w p true
+  fits-none y ds us left o c bs a e fr t = sym (t .same y fr)
+
+  pub fits-head : {b : Bool} → p .headed ≡ true → SameAtoms (f .rules) (f .goal) (f .terms) room (p .head) (w .goal) b → Fits f room w p b
+  fits-head {b} y s ds us left o c bs a e fr t =
+      let h = head-in f room p e fr (t .parts) in
+      let m = ready-atom t y .place in
+      same-there us (headOf e) a b s (m .booked .candidates) (h .framed y) (h .scoped y) (m .framed) (m .scoped)

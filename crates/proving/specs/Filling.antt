@@ -8,13 +8,13 @@ use mathlib.Core.Option.{some}
 use lib.ListN.{length, getD, getElem?}
 use Rattle.harrop.specs.declared.Binding.the-variants.{Candidate}
 use Rattle.harrop.specs.Formula.{Term, Atom, Goal, Clause}
-use Rattle.harrop.specs.Bindings.{Bindings, replacedAtom}
+use Rattle.harrop.specs.Bindings.{Bindings, replacedAtom, sameAtom}
 use Rattle.harrop.specs.Place.{AtHand, Hand, Plain, listed, allowed}
 use Rattle.packet.specs.declared.Word.{Word}
 use Rattle.packet.specs.declared.Word.the-variants as W
 use Rattle.packet.specs.Written.{goalSexp, atomSexp}
 use Rattle.packet.specs.Barred.{goalOk, atomOk}
-use Rattle.room.specs.Layout.{levels}
+use Rattle.room.specs.Layout.{levels, stack}
 use Rattle.room.specs.Frame.{bindingsIn}
 use Rattle.room.specs.Spot.{bindingsAt}
 use Rattle.room.specs.Where.{Files, Live, Kept, Framed}
@@ -27,7 +27,8 @@ use Rattle.mentions.specs.Mentions.{mentionsGoal}
 use Rattle.proving.specs.Provable as provable
 use Rattle.proving.specs.Stock.{Stock, Keeps}
 use Rattle.proving.specs.Proving.{Ready, Taken, Answers, passes}
-use Rattle.proving.specs.Parts.{variableWord, isPlain, quantifiers, core}
+use Rattle.proving.specs.Parts.{variableWord, isPlain, quantifiers, core, headOf}
+use Rattle.proving.specs.Chain.{chain, inside, headless}
 use Rattle.proving.specs.Frames.{alls, unsets, setTo, Completes}
 use Rattle.proving.specs.First.{FirstFrame, Forcing, Located}
 use Rattle.proving.specs.declared.plain.Parts.{Parts}
@@ -94,10 +95,13 @@ LookingOne f room after w own also v height r =
     Ready f room ds us w height o c bs g →
     Seen (Stock f ds us (w .supposed) c) (w .supposed) (w .top) room after us o c own bs also v height g r
 
--- the parts of a clause at their spots, in one frame: its head, and its body if it has one
+-- the parts of a clause at their spots, in one frame: its head, if it is to be compared, and its body if it has one
 pub record HeadIn (f : Files) (room : List ℕ) (p : Parts) (b : Atom) (fr : Bindings) : Type 0 where
-  pub framed : Framed f room (p .head) (p .head .base + p .head .count) (atomSexp b) fr
-  pub scoped : atomOk (length fr) b ≡ true
+  pub above : stack ≤ p .head .base
+  pub holds : bindingsAt room (p .head) ≡ fr
+  pub shallow : p .head .count ≤ levels
+  pub framed : p .headed ≡ true → Framed f room (p .head) (p .head .base + p .head .count) (atomSexp b) fr
+  pub scoped : p .headed ≡ true → atomOk (length fr) b ≡ true
 
 pub record BodyIn (f : Files) (room : List ℕ) (p : Parts) (g : Goal Plain) (fr : Bindings) : Type 0 where
   pub framed : Framed f room (p .goal) (p .head .base + p .head .count) (goalSexp g) fr
@@ -111,16 +115,21 @@ PartsIn f room p (Clause.impD g b) fr = (p .body ≡ true) × HeadIn f room p b 
 PartsIn f room p (Clause.allD q d) fr = ⊥
 PartsIn f room p (Clause.andD d e) fr = ⊥
 
--- where an atom is searched by such a clause: the atom's place, and the parts with a frame on top of the stack
-pub record Filling (f : Files) (room : List ℕ) (ds : List (Clause Plain)) (us : List Term) (w : Where) (p : Parts) (left : ℕ) (o : List Plain) (c : Hand Plain) (bs : Bindings) (a : Atom) (e : Clause Plain) (fr : Bindings) : Type 0 where
-  pub ready : Ready f room ds us w (suc left) o c bs (Goal.atom a)
-  pub parts : PartsIn f room p e fr
-  pub own : p .own ≤ p .head .count
-  pub fresh : p .head .base ≡ w .top
-
 -- where the clause's own variables begin
 abbrev pub floor : Parts → ℕ
 floor p = p .head .base + (p .head .count - p .own)
+
+-- where such a clause is searched: the place of the atom, which the head is compared with, and the parts with a frame that reaches at most so far above the stack.
+-- Where there is no head to compare the place is that of another goal, and clause and atom are such that nothing depends on them: they are the same whatever the frame becomes
+pub record Filling (f : Files) (room : List ℕ) (ds : List (Clause Plain)) (us : List Term) (w : Where) (p : Parts) (left : ℕ) (o : List Plain) (c : Hand Plain) (bs : Bindings) (a : Atom) (e : Clause Plain) (fr : Bindings) : Type 0 where
+  pub asked : Goal Plain
+  pub ready : Ready f room ds us w (suc left) o c bs asked
+  pub atom : p .headed ≡ true → asked ≡ Goal.atom a
+  pub same : p .headed ≡ false → (es : Bindings) → sameAtom (replacedAtom us es (headOf e)) (replacedAtom us bs a) ≡ true
+  pub parts : PartsIn f room p e fr
+  pub own : p .own ≤ p .head .count
+  pub fresh : w .top ≤ floor p
+  pub reach : p .head .base + p .head .count ≤ w .top + levels
 
 -- the first variables of a frame unset, and nothing else touched
 pub record Unsets (room after : List ℕ) (x : Spot) (own : ℕ) : Type 0 where
@@ -134,13 +143,34 @@ pub record Fillable (us : List Term) (left : ℕ) (o : List Plain) (c : Hand Pla
   pub yes : r ≡ true → (ds : Bindings) × Completes us o m fr ds × (passes us left o c bs a e ds ≡ true)
   pub no : r ≡ false → (ds : Bindings) → Completes us o m fr ds → passes us left o c bs a e ds ≡ false
 
+-- a no says that the head cannot become the atom, whatever the frame becomes
+abbrev pub MayFit : Files → List ℕ → Where → Parts → Bool → Type 0
+MayFit f room w p r =
+    (ds : List (Clause Plain)) (us : List Term) (left : ℕ) (o : List Plain) (c : Hand Plain) (bs : Bindings) (a : Atom) (e : Clause Plain) (fr : Bindings) →
+    Filling f room ds us w p left o c bs a e fr → r ≡ false →
+    Fillable us left o c bs a e (p .own) fr false
+
+-- whether the head is the atom
+abbrev pub Fits : Files → List ℕ → Where → Parts → Bool → Type 0
+Fits f room w p r =
+    (ds : List (Clause Plain)) (us : List Term) (left : ℕ) (o : List Plain) (c : Hand Plain) (bs : Bindings) (a : Atom) (e : Clause Plain) (fr : Bindings) →
+    Filling f room ds us w p left o c bs a e fr →
+    r ≡ sameAtom (replacedAtom us fr (headOf e)) (replacedAtom us bs a)
+
 -- what the atom forces is set, and nothing else: where only what is forced was set before, only that is set then, and whatever is said of the frame then holds of the frame before; or nothing completes it
 pub record Settled (f : Files) (after : List ℕ) (ds : List (Clause Plain)) (us : List Term) (w : Where) (p : Parts) (left : ℕ) (o : List Plain) (c : Hand Plain) (bs : Bindings) (a : Atom) (e : Clause Plain) (fr : Bindings) (r : Bool) : Type 0 where
   pub yes : r ≡ true → (fr′ : Bindings) × Filling f after ds us w p left o c bs a e fr′ × ((around : Bindings) → Forcing us o (p .own) (passes us left o c bs a e) around fr → Forcing us o (p .own) (passes us left o c bs a e) around fr′) × ((s : Bool) → Fillable us left o c bs a e (p .own) fr′ s → Fillable us left o c bs a e (p .own) fr s)
   pub no : r ≡ false → Fillable us left o c bs a e (p .own) fr false
 
+-- by a head that is to be compared, and by none as well
 abbrev pub Settling : Files → List ℕ → List ℕ → Where → Parts → Bool → Type 0
 Settling f room after w p r =
+    (ds : List (Clause Plain)) (us : List Term) (left : ℕ) (o : List Plain) (c : Hand Plain) (bs : Bindings) (a : Atom) (e : Clause Plain) (fr : Bindings) →
+    Filling f room ds us w p left o c bs a e fr → p .headed ≡ true →
+    Keeps (Stock f ds us (w .supposed) c) (w .supposed) (floor p) room after × Settled f after ds us w p left o c bs a e fr r
+
+abbrev pub Meeting : Files → List ℕ → List ℕ → Where → Parts → Bool → Type 0
+Meeting f room after w p r =
     (ds : List (Clause Plain)) (us : List Term) (left : ℕ) (o : List Plain) (c : Hand Plain) (bs : Bindings) (a : Atom) (e : Clause Plain) (fr : Bindings) →
     Filling f room ds us w p left o c bs a e fr →
     Keeps (Stock f ds us (w .supposed) c) (w .supposed) (floor p) room after × Settled f after ds us w p left o c bs a e fr r
@@ -215,12 +245,16 @@ FillingWith f room after w p v i left r =
 
 -- the whole clause, whose own variables are nothing yet: its parts stand, and the frame of the others is below them
 pub record Starting (f : Files) (room : List ℕ) (ds : List (Clause Plain)) (us : List Term) (w : Where) (p : Parts) (left : ℕ) (o : List Plain) (c : Hand Plain) (bs : Bindings) (a : Atom) (e : Clause Plain) (bs′ : Bindings) : Type 0 where
-  pub ready : Ready f room ds us w (suc left) o c bs (Goal.atom a)
+  pub asked : Goal Plain
+  pub ready : Ready f room ds us w (suc left) o c bs asked
+  pub atom : p .headed ≡ true → asked ≡ Goal.atom a
+  pub same : p .headed ≡ false → (es : Bindings) → sameAtom (replacedAtom us es (headOf e)) (replacedAtom us bs a) ≡ true
   pub holds : bindingsIn room (p .head .base) (p .head .count - p .own) ≡ bs′
   pub own : p .own ≤ p .head .count
-  pub few : p .head .count ≤ levels
+  pub above : stack ≤ p .head .base
   pub parts : (after : List ℕ) → bindingsAt after (p .head) ≡ unsets (p .own) bs′ → PartsIn f after p e (unsets (p .own) bs′)
-  pub fresh : p .head .base ≡ w .top
+  pub fresh : w .top ≤ floor p
+  pub reach : p .head .base + p .head .count ≤ w .top + levels
 
 abbrev pub PassingParts : Files → List ℕ → List ℕ → Where → Parts → ℕ → Bool → Type 0
 PassingParts f room after w p left r =
@@ -246,6 +280,14 @@ LocatingAt f room after w left k =
     (ds : List (Clause Plain)) (us : List Term) (o : List Plain) (c : Hand Plain) (bs : Bindings) (a : Atom) →
     Ready f room ds us w (suc left) o c bs (Goal.atom a) →
     LocatedAt us left o c bs a (w .top) after k
+
+-- and behind that of a `some`: the goal inside the chain is the body of a clause that has no head to compare
+abbrev pub LocatingSome : Files → List ℕ → List ℕ → Where → ℕ → Type 0
+LocatingSome f room after w left =
+    (ds : List (Clause Plain)) (us : List Term) (o : List Plain) (c : Hand Plain) (bs : Bindings) (g : Goal Plain) →
+    goalWord g ≡ W.Some →
+    Ready f room ds us w (suc left) o c bs g →
+    Located us (suc left - chain g) o c bs headless (chain g) (Clause.impD (inside g) headless) bs after (w .top)
 
 -- the same where the numbers of the atom and of its predicate are known
 abbrev pub LocatingFirst : Files → List ℕ → List ℕ → Where → ℕ → ℕ → ℕ → ℕ → Type 0

@@ -3,6 +3,7 @@ pub mod Hand
 pub mod Stock
 pub mod Proving
 pub mod Parts
+pub mod Chain
 pub mod Frames
 pub mod First
 pub mod Filling

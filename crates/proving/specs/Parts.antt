@@ -5,7 +5,7 @@ use mathlib.Core.Bool.{Bool, true, false}
 use lib.Dec.{ltb}
 use lib.ListN.{length}
 use Rattle.basics.specs.Choice.{choose}
-use Rattle.harrop.specs.Formula.{Goal, Clause}
+use Rattle.harrop.specs.Formula.{Atom, Goal, Clause}
 use Rattle.harrop.specs.Place.{Plain}
 use Rattle.sexp.specs.Sexp.{Stands, nesting}
 use Rattle.packet.specs.Written.{atomSexp, goalSexp, clauseSexp}
@@ -36,6 +36,13 @@ core (Clause.impD g b) = Clause.impD g b
 core (Clause.allD q d) = core d
 core (Clause.andD c d) = Clause.andD c d
 
+-- the head of a clause with no `and` on the way to it, with or without a body
+abbrev pub headOf : Clause Plain → Atom
+headOf (Clause.atomD b) = b
+headOf (Clause.impD g b) = b
+headOf (Clause.allD q d) = headOf d
+headOf (Clause.andD c d) = headOf c
+
 -- what is inside stands where the parts say
 abbrev pub CoreAt : Files → Parts → Clause Plain → Type 0
 CoreAt f r (Clause.atomD b) = (r .body ≡ false) × Stands (bytesAt f (r .head)) (r .head .at) (atomSexp b)
@@ -45,6 +52,7 @@ CoreAt f r (Clause.andD c d) = ⊥
 
 -- the parts of the clause at a spot, where so many quantifiers were passed before; both are in the frame of all variables
 pub record PartsAt (f : Files) (x : Spot) (passed : ℕ) (d : Clause Plain) (r : Parts) : Type 0 where
+  pub headed : r .headed ≡ true
   pub own : r .own ≡ passed + quantifiers d
   pub base : (r .head .base ≡ x .base) × (r .goal .base ≡ x .base)
   pub count : (r .head .count ≡ x .count + quantifiers d) × (r .goal .count ≡ x .count + quantifiers d)

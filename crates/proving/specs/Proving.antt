@@ -62,12 +62,6 @@ ProvingAs word f room after w left r =
 abbrev pub provesWith : List Term → ℕ → List Plain → Hand Plain → Bindings → Goal Plain → ℕ → Bool
 provesWith us left o c bs g j = provable.provable (listed us) left o c (Candidate j ∷ bs) g
 
-abbrev pub ProvingWith : Files → List ℕ → List ℕ → Where → ℕ → ℕ → Bool → Type 0
-ProvingWith f room after w i left r =
-    (ds : List (Clause Plain)) (us : List Term) (o : List Plain) (c : Hand Plain) (bs : Bindings) (q : Plain) (g : Goal Plain) →
-    Ready f room ds us w (suc left) o c bs (Goal.some q g) →
-    Answers (Stock f ds us (w .supposed) c) (w .supposed) (w .top) room after (provable.candidateDoes (listed us) o q (provesWith us left o c bs g) i) r
-
 -- whether clause k serves an atom
 abbrev pub ProvingBy : Files → List ℕ → List ℕ → Where → ℕ → ℕ → Bool → Type 0
 ProvingBy f room after w k left r =

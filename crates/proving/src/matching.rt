@@ -19,7 +19,7 @@ use unset::candidate_at;
 use unset::differs;
 use unset::open_at;
 ghost use Rattle.room.specs.Where.{filesOf};
-ghost use Rattle.proving.specs.Filling.{Settling};
+ghost use Rattle.proving.specs.Filling.{Settling, Meeting};
 ghost use Rattle.proving.specs.Matching.{Matching, MatchingVariable};
 
 // Variable v of the clause, not set yet, set to the lowest candidate that is the atom's term at a spot. No: there is none, or it may not be used.
@@ -68,7 +68,7 @@ fn match_term<'a>(
 }
 
 // The whole head. No: whatever the clause's variables become, it is not the atom.
-pub fn match_head<'a>(
+fn match_head<'a>(
     rules: &'a [u8],
     goal: &'a [u8],
     terms: &'a [u8],
@@ -109,4 +109,21 @@ pub fn match_head<'a>(
         j = k;
     }
     closes(t, j)
+}
+
+// The head beside the atom, if there is one to compare. No: it cannot become the atom.
+pub fn meet<'a>(
+    rules: &'a [u8],
+    goal: &'a [u8],
+    terms: &'a [u8],
+    room: &mut [u32],
+    w: Where,
+    p: Parts,
+) -> bool
+    ensures { λ r. ⌜ Meeting (filesOf (now (rules .entry)) (now (goal .entry)) (now (terms .entry))) (now (room .entry)) (now (room .exit)) w p r ⌝ }
+{
+    if !p.headed {
+        return true;
+    }
+    match_head(rules, goal, terms, room, w, p)
 }

@@ -1,6 +1,7 @@
 // A clause with no `and` on the way to its one head, searched for an atom: its own variables are unset at first, those that the atom forces are set, and the others get one candidate after the other.
 // A goal of the body is looked at as soon as its variables are set, and only then (document 02, Three: no verdict and no strip changes). How the atom forces variables is in src/matching.
 use crate::hand::deeper;
+use equal::same_atoms;
 use harrop::Binding;
 use packet::Word;
 use places::further;
@@ -11,17 +12,20 @@ use room::Spot;
 use room::Where;
 use room::push;
 use sexp::After;
+use unset::may_be;
 ghost use Rattle.room.specs.Where.{filesOf};
 ghost use mathlib.Core.Bool.{false};
 ghost use mathlib.Core.Path.{_≡_};
 ghost use Rattle.proving.specs.Parts.{PartsOf, PlainAt, variableWord, bodyPlace};
-ghost use Rattle.proving.specs.Filling.{Unsets};
+ghost use Rattle.proving.specs.Chain.{insideAt, ChainOf};
+ghost use Rattle.proving.specs.Filling.{Unsets, MayFit, Fits};
 
-// Such a clause: how many variables of its own it has, whether it has a body, and where body and head stand, in the frame of all its variables.
+// Such a clause: how many variables of its own it has, whether it has a body, whether its head is to be compared, and where body and head stand, in the frame of all its variables. The goal inside a chain of `some` is searched like the body of one, with no head to compare.
 pub struct Parts {
     pub found: bool,
     pub own: usize,
     pub body: bool,
+    pub headed: bool,
     pub goal: Spot,
     pub head: Spot,
 }
@@ -36,6 +40,7 @@ fn no_parts(x: Spot) -> Parts
         found: false,
         own: 0,
         body: false,
+        headed: true,
         goal: a,
         head: b,
     }
@@ -60,6 +65,7 @@ pub fn parts_of<'a>(
             found: true,
             own,
             body: false,
+            headed: true,
             goal: x,
             head: x,
         },
@@ -71,6 +77,7 @@ pub fn parts_of<'a>(
                 found: true,
                 own,
                 body: true,
+                headed: true,
                 goal: further(x, 6),
                 head: further(x, n),
             }
@@ -120,4 +127,74 @@ pub fn body_place(w: Where, p: Parts) -> Where
         parameters: w.parameters,
         top: plus(g.base, g.count),
     }
+}
+
+// The goal inside a chain of `some`.
+fn inside(x: Spot, own: usize) -> Parts
+    ensures { λ r. ⌜ r ≡ insideAt x own ⌝ }
+{
+    let a = x;
+    let b = x;
+    Parts {
+        found: true,
+        own,
+        body: true,
+        headed: false,
+        goal: a,
+        head: b,
+    }
+}
+
+// What stands inside the chain of `some` at a spot, where so many quantifiers were passed before.
+pub fn chain_of<'a>(
+    rules: &'a [u8],
+    goal: &'a [u8],
+    terms: &'a [u8],
+    x: Spot,
+    own: usize,
+    nest: usize,
+) -> Parts
+    ensures { λ r. ⌜ ChainOf (filesOf (now (rules .entry)) (now (goal .entry)) (now (terms .entry))) x own nest r ⌝ }
+{
+    if nest == 0 {
+        return inside(x, own);
+    }
+    match word_there(rules, goal, terms, x) {
+        Word::Some => chain_of(rules, goal, terms, deeper(x, 7), plus(own, 1), nest - 1),
+        _ => inside(x, own),
+    }
+}
+
+// Whether the head may still become the atom, if there is one to compare.
+pub fn may_fit<'a>(
+    rules: &'a [u8],
+    goal: &'a [u8],
+    terms: &'a [u8],
+    room: &[u32],
+    w: Where,
+    p: Parts,
+) -> bool
+    ensures { λ r. ⌜ MayFit (filesOf (now (rules .entry)) (now (goal .entry)) (now (terms .entry))) (now (room .entry)) w p r ⌝ }
+{
+    if !p.headed {
+        return true;
+    }
+    may_be(rules, goal, terms, room, p.head, w.goal, p.own)
+}
+
+// Whether the head is the atom, where every variable is set and if there is one to compare.
+pub fn fits<'a>(
+    rules: &'a [u8],
+    goal: &'a [u8],
+    terms: &'a [u8],
+    room: &[u32],
+    w: Where,
+    p: Parts,
+) -> bool
+    ensures { λ r. ⌜ Fits (filesOf (now (rules .entry)) (now (goal .entry)) (now (terms .entry))) (now (room .entry)) w p r ⌝ }
+{
+    if !p.headed {
+        return true;
+    }
+    same_atoms(rules, goal, terms, room, p.head, w.goal)
 }

@@ -25,73 +25,70 @@ use borrow.Fn.Kinds.{In}
 use borrow.Fn.PlainCycle.{Measures, is, falls, and}
 use Rattle.provable.proofs.provable.ask.Reads as ask
 use Rattle.provable.proofs.provable.ask.Kinds as ask-kinds
-use Rattle.provable.proofs.provable.+ask+body+both+decide+each+fill+find_clause+fork+look+look_and+prove_all+prove_atom+prove_goal+prove_or+prove_some+prove_with+start+through+through_with+try_all+try_one+under+use_clause.Lts-ask as ask-lts
+use Rattle.provable.proofs.provable.+ask+body+both+decide+each+fill+find_clause+fork+look+look_and+prove_all+prove_atom+prove_goal+prove_or+prove_some+start+through+through_with+try_all+try_one+under+use_clause.Lts-ask as ask-lts
 use Rattle.provable.proofs.provable.body.Reads as body
 use Rattle.provable.proofs.provable.body.Kinds as body-kinds
-use Rattle.provable.proofs.provable.+ask+body+both+decide+each+fill+find_clause+fork+look+look_and+prove_all+prove_atom+prove_goal+prove_or+prove_some+prove_with+start+through+through_with+try_all+try_one+under+use_clause.Lts-body as body-lts
+use Rattle.provable.proofs.provable.+ask+body+both+decide+each+fill+find_clause+fork+look+look_and+prove_all+prove_atom+prove_goal+prove_or+prove_some+start+through+through_with+try_all+try_one+under+use_clause.Lts-body as body-lts
 use Rattle.provable.proofs.provable.both.Reads as both
 use Rattle.provable.proofs.provable.both.Kinds as both-kinds
-use Rattle.provable.proofs.provable.+ask+body+both+decide+each+fill+find_clause+fork+look+look_and+prove_all+prove_atom+prove_goal+prove_or+prove_some+prove_with+start+through+through_with+try_all+try_one+under+use_clause.Lts-both as both-lts
+use Rattle.provable.proofs.provable.+ask+body+both+decide+each+fill+find_clause+fork+look+look_and+prove_all+prove_atom+prove_goal+prove_or+prove_some+start+through+through_with+try_all+try_one+under+use_clause.Lts-both as both-lts
 use Rattle.provable.proofs.provable.decide.Reads as decide
 use Rattle.provable.proofs.provable.decide.Kinds as decide-kinds
-use Rattle.provable.proofs.provable.+ask+body+both+decide+each+fill+find_clause+fork+look+look_and+prove_all+prove_atom+prove_goal+prove_or+prove_some+prove_with+start+through+through_with+try_all+try_one+under+use_clause.Lts-decide as decide-lts
+use Rattle.provable.proofs.provable.+ask+body+both+decide+each+fill+find_clause+fork+look+look_and+prove_all+prove_atom+prove_goal+prove_or+prove_some+start+through+through_with+try_all+try_one+under+use_clause.Lts-decide as decide-lts
 use Rattle.provable.proofs.provable.each.Reads as each
 use Rattle.provable.proofs.provable.each.Kinds as each-kinds
-use Rattle.provable.proofs.provable.+ask+body+both+decide+each+fill+find_clause+fork+look+look_and+prove_all+prove_atom+prove_goal+prove_or+prove_some+prove_with+start+through+through_with+try_all+try_one+under+use_clause.Lts-each as each-lts
+use Rattle.provable.proofs.provable.+ask+body+both+decide+each+fill+find_clause+fork+look+look_and+prove_all+prove_atom+prove_goal+prove_or+prove_some+start+through+through_with+try_all+try_one+under+use_clause.Lts-each as each-lts
 use Rattle.provable.proofs.provable.fill.Reads as fill
 use Rattle.provable.proofs.provable.fill.Kinds as fill-kinds
-use Rattle.provable.proofs.provable.+ask+body+both+decide+each+fill+find_clause+fork+look+look_and+prove_all+prove_atom+prove_goal+prove_or+prove_some+prove_with+start+through+through_with+try_all+try_one+under+use_clause.Lts-fill as fill-lts
+use Rattle.provable.proofs.provable.+ask+body+both+decide+each+fill+find_clause+fork+look+look_and+prove_all+prove_atom+prove_goal+prove_or+prove_some+start+through+through_with+try_all+try_one+under+use_clause.Lts-fill as fill-lts
 use Rattle.provable.proofs.provable.find_clause.Reads as find-clause
 use Rattle.provable.proofs.provable.find_clause.Kinds as find-clause-kinds
-use Rattle.provable.proofs.provable.+ask+body+both+decide+each+fill+find_clause+fork+look+look_and+prove_all+prove_atom+prove_goal+prove_or+prove_some+prove_with+start+through+through_with+try_all+try_one+under+use_clause.Lts-find_clause as find-clause-lts
+use Rattle.provable.proofs.provable.+ask+body+both+decide+each+fill+find_clause+fork+look+look_and+prove_all+prove_atom+prove_goal+prove_or+prove_some+start+through+through_with+try_all+try_one+under+use_clause.Lts-find_clause as find-clause-lts
 use Rattle.provable.proofs.provable.fork.Reads as fork
 use Rattle.provable.proofs.provable.fork.Kinds as fork-kinds
-use Rattle.provable.proofs.provable.+ask+body+both+decide+each+fill+find_clause+fork+look+look_and+prove_all+prove_atom+prove_goal+prove_or+prove_some+prove_with+start+through+through_with+try_all+try_one+under+use_clause.Lts-fork as fork-lts
+use Rattle.provable.proofs.provable.+ask+body+both+decide+each+fill+find_clause+fork+look+look_and+prove_all+prove_atom+prove_goal+prove_or+prove_some+start+through+through_with+try_all+try_one+under+use_clause.Lts-fork as fork-lts
 use Rattle.provable.proofs.provable.look.Reads as look
 use Rattle.provable.proofs.provable.look.Kinds as look-kinds
-use Rattle.provable.proofs.provable.+ask+body+both+decide+each+fill+find_clause+fork+look+look_and+prove_all+prove_atom+prove_goal+prove_or+prove_some+prove_with+start+through+through_with+try_all+try_one+under+use_clause.Lts-look as look-lts
+use Rattle.provable.proofs.provable.+ask+body+both+decide+each+fill+find_clause+fork+look+look_and+prove_all+prove_atom+prove_goal+prove_or+prove_some+start+through+through_with+try_all+try_one+under+use_clause.Lts-look as look-lts
 use Rattle.provable.proofs.provable.look_and.Reads as look-and
 use Rattle.provable.proofs.provable.look_and.Kinds as look-and-kinds
-use Rattle.provable.proofs.provable.+ask+body+both+decide+each+fill+find_clause+fork+look+look_and+prove_all+prove_atom+prove_goal+prove_or+prove_some+prove_with+start+through+through_with+try_all+try_one+under+use_clause.Lts-look_and as look-and-lts
+use Rattle.provable.proofs.provable.+ask+body+both+decide+each+fill+find_clause+fork+look+look_and+prove_all+prove_atom+prove_goal+prove_or+prove_some+start+through+through_with+try_all+try_one+under+use_clause.Lts-look_and as look-and-lts
 use Rattle.provable.proofs.provable.prove_all.Reads as prove-all
 use Rattle.provable.proofs.provable.prove_all.Kinds as prove-all-kinds
-use Rattle.provable.proofs.provable.+ask+body+both+decide+each+fill+find_clause+fork+look+look_and+prove_all+prove_atom+prove_goal+prove_or+prove_some+prove_with+start+through+through_with+try_all+try_one+under+use_clause.Lts-prove_all as prove-all-lts
+use Rattle.provable.proofs.provable.+ask+body+both+decide+each+fill+find_clause+fork+look+look_and+prove_all+prove_atom+prove_goal+prove_or+prove_some+start+through+through_with+try_all+try_one+under+use_clause.Lts-prove_all as prove-all-lts
 use Rattle.provable.proofs.provable.prove_atom.Reads as prove-atom
 use Rattle.provable.proofs.provable.prove_atom.Kinds as prove-atom-kinds
-use Rattle.provable.proofs.provable.+ask+body+both+decide+each+fill+find_clause+fork+look+look_and+prove_all+prove_atom+prove_goal+prove_or+prove_some+prove_with+start+through+through_with+try_all+try_one+under+use_clause.Lts-prove_atom as prove-atom-lts
+use Rattle.provable.proofs.provable.+ask+body+both+decide+each+fill+find_clause+fork+look+look_and+prove_all+prove_atom+prove_goal+prove_or+prove_some+start+through+through_with+try_all+try_one+under+use_clause.Lts-prove_atom as prove-atom-lts
 use Rattle.provable.proofs.provable.prove_goal.Reads as prove-goal
 use Rattle.provable.proofs.provable.prove_goal.Kinds as prove-goal-kinds
-use Rattle.provable.proofs.provable.+ask+body+both+decide+each+fill+find_clause+fork+look+look_and+prove_all+prove_atom+prove_goal+prove_or+prove_some+prove_with+start+through+through_with+try_all+try_one+under+use_clause.Lts-prove_goal as prove-goal-lts
+use Rattle.provable.proofs.provable.+ask+body+both+decide+each+fill+find_clause+fork+look+look_and+prove_all+prove_atom+prove_goal+prove_or+prove_some+start+through+through_with+try_all+try_one+under+use_clause.Lts-prove_goal as prove-goal-lts
 use Rattle.provable.proofs.provable.prove_or.Reads as prove-or
 use Rattle.provable.proofs.provable.prove_or.Kinds as prove-or-kinds
-use Rattle.provable.proofs.provable.+ask+body+both+decide+each+fill+find_clause+fork+look+look_and+prove_all+prove_atom+prove_goal+prove_or+prove_some+prove_with+start+through+through_with+try_all+try_one+under+use_clause.Lts-prove_or as prove-or-lts
+use Rattle.provable.proofs.provable.+ask+body+both+decide+each+fill+find_clause+fork+look+look_and+prove_all+prove_atom+prove_goal+prove_or+prove_some+start+through+through_with+try_all+try_one+under+use_clause.Lts-prove_or as prove-or-lts
 use Rattle.provable.proofs.provable.prove_some.Reads as prove-some
 use Rattle.provable.proofs.provable.prove_some.Kinds as prove-some-kinds
-use Rattle.provable.proofs.provable.+ask+body+both+decide+each+fill+find_clause+fork+look+look_and+prove_all+prove_atom+prove_goal+prove_or+prove_some+prove_with+start+through+through_with+try_all+try_one+under+use_clause.Lts-prove_some as prove-some-lts
-use Rattle.provable.proofs.provable.prove_with.Reads as prove-with
-use Rattle.provable.proofs.provable.prove_with.Kinds as prove-with-kinds
-use Rattle.provable.proofs.provable.+ask+body+both+decide+each+fill+find_clause+fork+look+look_and+prove_all+prove_atom+prove_goal+prove_or+prove_some+prove_with+start+through+through_with+try_all+try_one+under+use_clause.Lts-prove_with as prove-with-lts
+use Rattle.provable.proofs.provable.+ask+body+both+decide+each+fill+find_clause+fork+look+look_and+prove_all+prove_atom+prove_goal+prove_or+prove_some+start+through+through_with+try_all+try_one+under+use_clause.Lts-prove_some as prove-some-lts
 use Rattle.provable.proofs.provable.start.Reads as start
 use Rattle.provable.proofs.provable.start.Kinds as start-kinds
-use Rattle.provable.proofs.provable.+ask+body+both+decide+each+fill+find_clause+fork+look+look_and+prove_all+prove_atom+prove_goal+prove_or+prove_some+prove_with+start+through+through_with+try_all+try_one+under+use_clause.Lts-start as start-lts
+use Rattle.provable.proofs.provable.+ask+body+both+decide+each+fill+find_clause+fork+look+look_and+prove_all+prove_atom+prove_goal+prove_or+prove_some+start+through+through_with+try_all+try_one+under+use_clause.Lts-start as start-lts
 use Rattle.provable.proofs.provable.through.Reads as through
 use Rattle.provable.proofs.provable.through.Kinds as through-kinds
-use Rattle.provable.proofs.provable.+ask+body+both+decide+each+fill+find_clause+fork+look+look_and+prove_all+prove_atom+prove_goal+prove_or+prove_some+prove_with+start+through+through_with+try_all+try_one+under+use_clause.Lts-through as through-lts
+use Rattle.provable.proofs.provable.+ask+body+both+decide+each+fill+find_clause+fork+look+look_and+prove_all+prove_atom+prove_goal+prove_or+prove_some+start+through+through_with+try_all+try_one+under+use_clause.Lts-through as through-lts
 use Rattle.provable.proofs.provable.through_with.Reads as through-with
 use Rattle.provable.proofs.provable.through_with.Kinds as through-with-kinds
-use Rattle.provable.proofs.provable.+ask+body+both+decide+each+fill+find_clause+fork+look+look_and+prove_all+prove_atom+prove_goal+prove_or+prove_some+prove_with+start+through+through_with+try_all+try_one+under+use_clause.Lts-through_with as through-with-lts
+use Rattle.provable.proofs.provable.+ask+body+both+decide+each+fill+find_clause+fork+look+look_and+prove_all+prove_atom+prove_goal+prove_or+prove_some+start+through+through_with+try_all+try_one+under+use_clause.Lts-through_with as through-with-lts
 use Rattle.provable.proofs.provable.try_all.Reads as try-all
 use Rattle.provable.proofs.provable.try_all.Kinds as try-all-kinds
-use Rattle.provable.proofs.provable.+ask+body+both+decide+each+fill+find_clause+fork+look+look_and+prove_all+prove_atom+prove_goal+prove_or+prove_some+prove_with+start+through+through_with+try_all+try_one+under+use_clause.Lts-try_all as try-all-lts
+use Rattle.provable.proofs.provable.+ask+body+both+decide+each+fill+find_clause+fork+look+look_and+prove_all+prove_atom+prove_goal+prove_or+prove_some+start+through+through_with+try_all+try_one+under+use_clause.Lts-try_all as try-all-lts
 use Rattle.provable.proofs.provable.try_one.Reads as try-one
 use Rattle.provable.proofs.provable.try_one.Kinds as try-one-kinds
-use Rattle.provable.proofs.provable.+ask+body+both+decide+each+fill+find_clause+fork+look+look_and+prove_all+prove_atom+prove_goal+prove_or+prove_some+prove_with+start+through+through_with+try_all+try_one+under+use_clause.Lts-try_one as try-one-lts
+use Rattle.provable.proofs.provable.+ask+body+both+decide+each+fill+find_clause+fork+look+look_and+prove_all+prove_atom+prove_goal+prove_or+prove_some+start+through+through_with+try_all+try_one+under+use_clause.Lts-try_one as try-one-lts
 use Rattle.provable.proofs.provable.under.Reads as under
 use Rattle.provable.proofs.provable.under.Kinds as under-kinds
-use Rattle.provable.proofs.provable.+ask+body+both+decide+each+fill+find_clause+fork+look+look_and+prove_all+prove_atom+prove_goal+prove_or+prove_some+prove_with+start+through+through_with+try_all+try_one+under+use_clause.Lts-under as under-lts
+use Rattle.provable.proofs.provable.+ask+body+both+decide+each+fill+find_clause+fork+look+look_and+prove_all+prove_atom+prove_goal+prove_or+prove_some+start+through+through_with+try_all+try_one+under+use_clause.Lts-under as under-lts
 use Rattle.provable.proofs.provable.use_clause.Reads as use-clause
 use Rattle.provable.proofs.provable.use_clause.Kinds as use-clause-kinds
-use Rattle.provable.proofs.provable.+ask+body+both+decide+each+fill+find_clause+fork+look+look_and+prove_all+prove_atom+prove_goal+prove_or+prove_some+prove_with+start+through+through_with+try_all+try_one+under+use_clause.Lts-use_clause as use-clause-lts
+use Rattle.provable.proofs.provable.+ask+body+both+decide+each+fill+find_clause+fork+look+look_and+prove_all+prove_atom+prove_goal+prove_or+prove_some+start+through+through_with+try_all+try_one+under+use_clause.Lts-use_clause as use-clause-lts
 use Rattle.heads.proofs.has_head.Reads as has-head-reads
 use Rattle.keys.proofs.both_keys.Reads as both-keys-reads
 use Rattle.keys.proofs.next_clause.Reads as next-clause-reads
@@ -102,13 +99,15 @@ use Rattle.proving.proofs.is_fact.Reads as is-fact-reads
 use Rattle.proving.proofs.open_clause.Reads as open-clause-reads
 use Rattle.proving.proofs.body_place.Reads as body-place-reads
 use Rattle.proving.proofs.parts_of.Reads as parts-of-reads
-use Rattle.proving.proofs.match_head.Reads as match-head-reads
+use Rattle.proving.proofs.chain_of.Reads as chain-of-reads
+use Rattle.proving.proofs.fits.Reads as fits-reads
+use Rattle.proving.proofs.may_fit.Reads as may-fit-reads
+use Rattle.proving.proofs.meet.Reads as meet-reads
 use Rattle.proving.proofs.unset_all.Reads as unset-all-reads
 use Rattle.proving.proofs.word_of.Reads as word-of-reads
 use Rattle.provable.proofs.provable.is_due.Reads as is-due-reads
 use Rattle.narrowing.proofs.narrow_body.Reads as narrow-body-reads
 use Rattle.narrowing.proofs.is_left_out.Reads as is-left-out-reads
-use Rattle.equal.proofs.same_atoms.Reads as same-atoms-reads
 use Rattle.room.proofs.suppose.Reads as suppose-reads
 use Rattle.room.proofs.push.Reads as push-reads
 use Rattle.places.proofs.bound.Reads as bound-reads
@@ -123,12 +122,11 @@ use Rattle.table.proofs.recall.Reads as recall-reads
 use Rattle.table.proofs.forget.Reads as forget-reads
 use Rattle.table.proofs.keep.Reads as keep-reads
 use Rattle.table.proofs.slot_for.Reads as slot-for-reads
-use Rattle.unset.proofs.may_be.Reads as may-be-reads
 use Rattle.held.proofs.is_open.Reads as is-open-reads
-use Rattle.provable.proofs.provable.+ask+body+both+decide+each+fill+find_clause+fork+look+look_and+prove_all+prove_atom+prove_goal+prove_or+prove_some+prove_with+start+through+through_with+try_all+try_one+under+use_clause.{
+use Rattle.provable.proofs.provable.+ask+body+both+decide+each+fill+find_clause+fork+look+look_and+prove_all+prove_atom+prove_goal+prove_or+prove_some+start+through+through_with+try_all+try_one+under+use_clause.{
   statement,
 }
-use Rattle.provable.proofs.provable.+ask+body+both+decide+each+fill+find_clause+fork+look+look_and+prove_all+prove_atom+prove_goal+prove_or+prove_some+prove_with+start+through+through_with+try_all+try_one+under+use_clause.Tie.{
+use Rattle.provable.proofs.provable.+ask+body+both+decide+each+fill+find_clause+fork+look+look_and+prove_all+prove_atom+prove_goal+prove_or+prove_some+start+through+through_with+try_all+try_one+under+use_clause.Tie.{
   close,
 }
 
@@ -176,9 +174,6 @@ abbrev μ-prove-or : Measures 2 prove-or-kinds.ps ℕ
 
 abbrev μ-prove-some : Measures 2 prove-some-kinds.ps ℕ
 μ-prove-some κs a = 100000 * a .1 .1 .1 .1 .1 .0 + 90000
-
-abbrev μ-prove-with : Measures 2 prove-with-kinds.ps ℕ
-μ-prove-with κs a = 100000 * a .1 .1 .1 .1 .1 .1 .0 + 80000
 
 abbrev μ-start : Measures 2 start-kinds.ps ℕ
 μ-start κs a = 100000 * a .1 .1 .1 .1 .1 .1 .0 + 1000 + 10 * a .1 .1 .1 .1 .1 .0 .own + 5
@@ -314,14 +309,6 @@ prove-some-at t =
 abbrev prove-some-below : ℕ → In 2 prove-some-kinds.ps
 prove-some-below t =
     and 2 prove-some-kinds.ps (falls 2 prove-some-kinds.ps _<_ μ-prove-some t) prove-some.Pre
-
-abbrev prove-with-at : ℕ → In 2 prove-with-kinds.ps
-prove-with-at t =
-    and 2 prove-with-kinds.ps (is 2 prove-with-kinds.ps μ-prove-with t) prove-with.Pre
-
-abbrev prove-with-below : ℕ → In 2 prove-with-kinds.ps
-prove-with-below t =
-    and 2 prove-with-kinds.ps (falls 2 prove-with-kinds.ps _<_ μ-prove-with t) prove-with.Pre
 
 abbrev start-at : ℕ → In 2 start-kinds.ps
 start-at t =
@@ -582,55 +569,55 @@ each-returns-2 t c = let x = c .before .before .before .before .before .before .
     passing.all-done (x .nest) (l .i) (c .before .before .candidates .result) (c .loop-test .left) (c .before .before .candidates .ensures) (l .inv .1 .1)
 
 -- src/provable.rt:504:9
-fill-same-atoms-requires : (t : ℕ) → fill-lts.Need-same-atoms-requires (same-atoms-reads.Asked, same-atoms-reads.Learnt, is-open-reads.Asked, is-open-reads.Learnt, try-all-below t, try-all.Post, fill-below t, fill.Post) (fill-at t) fill.Post
-fill-same-atoms-requires t c κs = search needs
+fill-fits-requires : (t : ℕ) → fill-lts.Need-fits-requires (fits-reads.Asked, fits-reads.Learnt, is-open-reads.Asked, is-open-reads.Learnt, try-all-below t, try-all.Post, fill-below t, fill.Post) (fill-at t) fill.Post
+fill-fits-requires t c κs = search needs
 
 -- src/provable.rt:504:9
-fill-same-length : (t : ℕ) → fill-lts.Need-same-length (same-atoms-reads.Asked, same-atoms-reads.Learnt, is-open-reads.Asked, is-open-reads.Learnt, try-all-below t, try-all.Post, fill-below t, fill.Post) (fill-at t) fill.Post
+fill-same-length : (t : ℕ) → fill-lts.Need-same-length (fits-reads.Asked, fits-reads.Learnt, is-open-reads.Asked, is-open-reads.Learnt, try-all-below t, try-all.Post, fill-below t, fill.Post) (fill-at t) fill.Post
 fill-same-length t c = search needs
 
 -- src/provable.rt:504:9
-fill-returns : (t : ℕ) → fill-lts.Need-returns (same-atoms-reads.Asked, same-atoms-reads.Learnt, is-open-reads.Asked, is-open-reads.Learnt, try-all-below t, try-all.Post, fill-below t, fill.Post) (fill-at t) fill.Post
-fill-returns t c = filling.fill-end (c .before .before .before .before .before .before .before .args .k) (c .before .before .if1 .taken) (c .same-atoms .ensures)
+fill-returns : (t : ℕ) → fill-lts.Need-returns (fits-reads.Asked, fits-reads.Learnt, is-open-reads.Asked, is-open-reads.Learnt, try-all-below t, try-all.Post, fill-below t, fill.Post) (fill-at t) fill.Post
+fill-returns t c = filling.fill-end (c .before .before .before .before .before .before .before .args .k) (c .before .before .if1 .taken) (c .fits2 .ensures)
 
 -- src/provable.rt:506:37
-fill-sub-is-open : (t : ℕ) → fill-lts.Need-sub-is-open (same-atoms-reads.Asked, same-atoms-reads.Learnt, is-open-reads.Asked, is-open-reads.Learnt, try-all-below t, try-all.Post, fill-below t, fill.Post) (fill-at t) fill.Post
+fill-sub-is-open : (t : ℕ) → fill-lts.Need-sub-is-open (fits-reads.Asked, fits-reads.Learnt, is-open-reads.Asked, is-open-reads.Learnt, try-all-below t, try-all.Post, fill-below t, fill.Post) (fill-at t) fill.Post
 fill-sub-is-open t c = search needs
 
 -- src/provable.rt:506:8
-fill-is-open-requires : (t : ℕ) → fill-lts.Need-is-open-requires (same-atoms-reads.Asked, same-atoms-reads.Learnt, is-open-reads.Asked, is-open-reads.Learnt, try-all-below t, try-all.Post, fill-below t, fill.Post) (fill-at t) fill.Post
+fill-is-open-requires : (t : ℕ) → fill-lts.Need-is-open-requires (fits-reads.Asked, fits-reads.Learnt, is-open-reads.Asked, is-open-reads.Learnt, try-all-below t, try-all.Post, fill-below t, fill.Post) (fill-at t) fill.Post
 fill-is-open-requires t c κs = search needs
 
 -- src/provable.rt:507:56
-fill-sub-try-all : (t : ℕ) → fill-lts.Need-sub-try-all (same-atoms-reads.Asked, same-atoms-reads.Learnt, is-open-reads.Asked, is-open-reads.Learnt, try-all-below t, try-all.Post, fill-below t, fill.Post) (fill-at t) fill.Post
+fill-sub-try-all : (t : ℕ) → fill-lts.Need-sub-try-all (fits-reads.Asked, fits-reads.Learnt, is-open-reads.Asked, is-open-reads.Learnt, try-all-below t, try-all.Post, fill-below t, fill.Post) (fill-at t) fill.Post
 fill-sub-try-all t c = search needs
 
 -- src/provable.rt:507:9
-fill-try-all-requires : (t : ℕ) → fill-lts.Need-try-all-requires (same-atoms-reads.Asked, same-atoms-reads.Learnt, is-open-reads.Asked, is-open-reads.Learnt, try-all-below t, try-all.Post, fill-below t, fill.Post) (fill-at t) fill.Post
+fill-try-all-requires : (t : ℕ) → fill-lts.Need-try-all-requires (fits-reads.Asked, fits-reads.Learnt, is-open-reads.Asked, is-open-reads.Learnt, try-all-below t, try-all.Post, fill-below t, fill.Post) (fill-at t) fill.Post
 fill-try-all-requires t c κs = (omega (arith, c .before .before .before .before .before .before .before .before .before .pre .0, c .before .before .before .before .if1 .left), tt)
 
 -- src/provable.rt:507:9
-fill-same-length-2 : (t : ℕ) → fill-lts.Need-same-length-2 (same-atoms-reads.Asked, same-atoms-reads.Learnt, is-open-reads.Asked, is-open-reads.Learnt, try-all-below t, try-all.Post, fill-below t, fill.Post) (fill-at t) fill.Post
+fill-same-length-2 : (t : ℕ) → fill-lts.Need-same-length-2 (fits-reads.Asked, fits-reads.Learnt, is-open-reads.Asked, is-open-reads.Learnt, try-all-below t, try-all.Post, fill-below t, fill.Post) (fill-at t) fill.Post
 fill-same-length-2 t c = c .before .before .try-all .kept .1 .1 .1 .0
 
 -- src/provable.rt:507:9
-fill-returns-2 : (t : ℕ) → fill-lts.Need-returns-2 (same-atoms-reads.Asked, same-atoms-reads.Learnt, is-open-reads.Asked, is-open-reads.Learnt, try-all-below t, try-all.Post, fill-below t, fill.Post) (fill-at t) fill.Post
+fill-returns-2 : (t : ℕ) → fill-lts.Need-returns-2 (fits-reads.Asked, fits-reads.Learnt, is-open-reads.Asked, is-open-reads.Learnt, try-all-below t, try-all.Post, fill-below t, fill.Post) (fill-at t) fill.Post
 fill-returns-2 t c = filling.fill-here (c .before .before .before .before .before .before .before .before .before .before .before .before .args .k) (c .before .before .before .before .before .before .before .if1 .left) (c .before .before .before .before .before .is-open .ensures) (c .before .before .before .before .if2 .taken) (c .before .before .try-all .ensures)
 
 -- src/provable.rt:509:42
-fill-sub-fill : (t : ℕ) → fill-lts.Need-sub-fill (same-atoms-reads.Asked, same-atoms-reads.Learnt, is-open-reads.Asked, is-open-reads.Learnt, try-all-below t, try-all.Post, fill-below t, fill.Post) (fill-at t) fill.Post
+fill-sub-fill : (t : ℕ) → fill-lts.Need-sub-fill (fits-reads.Asked, fits-reads.Learnt, is-open-reads.Asked, is-open-reads.Learnt, try-all-below t, try-all.Post, fill-below t, fill.Post) (fill-at t) fill.Post
 fill-sub-fill t c = search needs
 
 -- src/provable.rt:509:5
-fill-fill-requires : (t : ℕ) → fill-lts.Need-fill-requires (same-atoms-reads.Asked, same-atoms-reads.Learnt, is-open-reads.Asked, is-open-reads.Learnt, try-all-below t, try-all.Post, fill-below t, fill.Post) (fill-at t) fill.Post
+fill-fill-requires : (t : ℕ) → fill-lts.Need-fill-requires (fits-reads.Asked, fits-reads.Learnt, is-open-reads.Asked, is-open-reads.Learnt, try-all-below t, try-all.Post, fill-below t, fill.Post) (fill-at t) fill.Post
 fill-fill-requires t c κs = (omega (arith, c .before .before .before .before .before .before .before .before .before .pre .0, c .before .before .before .before .if1 .left), tt)
 
 -- src/provable.rt:491:1
-fill-same-length-3 : (t : ℕ) → fill-lts.Need-same-length-3 (same-atoms-reads.Asked, same-atoms-reads.Learnt, is-open-reads.Asked, is-open-reads.Learnt, try-all-below t, try-all.Post, fill-below t, fill.Post) (fill-at t) fill.Post
+fill-same-length-3 : (t : ℕ) → fill-lts.Need-same-length-3 (fits-reads.Asked, fits-reads.Learnt, is-open-reads.Asked, is-open-reads.Learnt, try-all-below t, try-all.Post, fill-below t, fill.Post) (fill-at t) fill.Post
 fill-same-length-3 t c = c .before .before .fill .kept .1 .1 .1 .0
 
 -- src/provable.rt:491:1
-fill-returns-3 : (t : ℕ) → fill-lts.Need-returns-3 (same-atoms-reads.Asked, same-atoms-reads.Learnt, is-open-reads.Asked, is-open-reads.Learnt, try-all-below t, try-all.Post, fill-below t, fill.Post) (fill-at t) fill.Post
+fill-returns-3 : (t : ℕ) → fill-lts.Need-returns-3 (fits-reads.Asked, fits-reads.Learnt, is-open-reads.Asked, is-open-reads.Learnt, try-all-below t, try-all.Post, fill-below t, fill.Post) (fill-at t) fill.Post
 fill-returns-3 t c = filling.fill-set (c .before .before .before .before .before .before .before .before .before .before .before .before .args .k) (c .before .before .before .before .before .before .before .if1 .left) (c .before .before .before .before .before .is-open .ensures) (c .before .before .before .before .if2 .left) (c .before .before .fill .ensures)
 
 abbrev find-clause-Inv-loop : find-clause-lts.InvT-loop
@@ -1066,7 +1053,7 @@ prove-goal-same-length-4 t c = search needs
 -- src/provable.rt:54:1
 prove-goal-returns-6 : (t : ℕ) → prove-goal-lts.Need-returns-6 (word-there-reads.Asked, word-there-reads.Learnt, prove-atom-below t, prove-atom.Post, both-below t, both.Post, prove-or-below t, prove-or.Post, prove-some-below t, prove-some.Post, prove-all-below t, prove-all.Post, under-below t, under.Post) (prove-goal-at t) prove-goal.Post
 prove-goal-returns-6 t c = let x = c .before .before .before .before .before .before .before .before .before .before .before .before .args in
-    laws.by-word (x .height) W.Some (c .before .before .before .before .before .before .word-there .result) (c .before .before .before .before .before .before .before .if1 .left) (c .before .before .before .before .before .before .word-there .ensures) (c .before .before .before .before .enum-told5 .given .1) (c .before .before .prove-some .ensures)
+    laws.by-word (x .height) W.Some (c .before .before .before .before .before .before .word-there .result) (c .before .before .before .before .before .before .before .if1 .left) (c .before .before .before .before .before .before .word-there .ensures) (c .before .before .before .before .enum-told5 .given .1) (c .before .before .prove-some .ensures .0)
 
 -- src/provable.rt:54:1
 prove-goal-same-length-5 : (t : ℕ) → prove-goal-lts.Need-same-length-5 (word-there-reads.Asked, word-there-reads.Learnt, prove-atom-below t, prove-atom.Post, both-below t, both.Post, prove-or-below t, prove-or.Post, prove-some-below t, prove-some.Post, prove-all-below t, prove-all.Post, under-below t, under.Post) (prove-goal-at t) prove-goal.Post
@@ -1141,127 +1128,79 @@ prove-or-same-length-2 t c = search needs
 prove-or-returns-3 : (t : ℕ) → prove-or-lts.Need-returns-3 (past-part-reads.Asked, past-part-reads.Learnt, within-reads.Asked, within-reads.Learnt, prove-goal-below t, prove-goal.Post) (prove-or-at t) prove-or.Post
 prove-or-returns-3 t c = laws.either-second (c .before .before .before .before .before .before .before .before .before .within .ensures) (c .before .before .before .within2 .ensures) (c .before .before .before .before .before .before .before .before .before .before .before .before .before .before .past-part .ensures) (c .before .before .before .before .before .before .before .before .before .before .before .before .n .given .1) (c .before .before .before .before .before .before .before .before .prove-goal .ensures) (c .before .before .before .before .before .if1 .left) (c .before .before .before .before .before .before .before .before .prove-goal .kept .1 .1 .1 .0) (c .before .before .prove-goal2 .ensures)
 
-abbrev prove-some-Inv-loop : prove-some-lts.InvT-loop
-prove-some-Inv-loop rules goal terms room₀ w left n i₀ room i =
-    (i ≤ n) × ((length room ≡ length room₀) × laws.SomeLeft (filesOf rules goal terms) room₀ w left room i)
+-- src/provable.rt
+prove-some-deeper-requires : (t : ℕ) → prove-some-lts.Need-deeper-requires (deeper-reads.Asked, deeper-reads.Learnt, chain-of-reads.Asked, chain-of-reads.Learnt, start-below t, start.Post) (prove-some-at t) prove-some.Post
+prove-some-deeper-requires t c κs = search needs
 
-abbrev prove-some-μ-loop : prove-some-lts.MeasureT-loop
-prove-some-μ-loop rules goal terms room₀ w left n i₀ room i = n - i
+-- src/provable.rt
+prove-some-chain-of-requires : (t : ℕ) → prove-some-lts.Need-chain-of-requires (deeper-reads.Asked, deeper-reads.Learnt, chain-of-reads.Asked, chain-of-reads.Learnt, start-below t, start.Post) (prove-some-at t) prove-some.Post
+prove-some-chain-of-requires t c κs = search needs
 
--- src/provable.rt:130:9
-prove-some-candidates-requires : (t : ℕ) → prove-some-lts.Need-candidates-requires (candidates-reads.Asked, candidates-reads.Learnt, prove-with-below t, prove-with.Post) (prove-some-at t) prove-some.Post prove-some-Inv-loop prove-some-μ-loop
-prove-some-candidates-requires t c κs = search needs
+-- src/provable.rt
+prove-some-returns : (t : ℕ) → prove-some-lts.Need-returns (deeper-reads.Asked, deeper-reads.Learnt, chain-of-reads.Asked, chain-of-reads.Learnt, start-below t, start.Post) (prove-some-at t) prove-some.Post
+prove-some-returns t c = (filling.some-low (c .before .before .before .before .before .before .before .before .args .left) (c .before .before .before .deeper .ensures) (c .before .before .chain-of .ensures) (c .if1 .taken), locating.located-no-some)
 
--- src/provable.rt:132:5
-prove-some-loop-holds : (t : ℕ) → prove-some-lts.Need-loop-holds (candidates-reads.Asked, candidates-reads.Learnt, prove-with-below t, prove-with.Post) (prove-some-at t) prove-some.Post prove-some-Inv-loop prove-some-μ-loop
-prove-some-loop-holds t c = (omega arith, (refl, laws.some-start))
+-- src/provable.rt
+prove-some-sub-start : (t : ℕ) → prove-some-lts.Need-sub-start (deeper-reads.Asked, deeper-reads.Learnt, chain-of-reads.Asked, chain-of-reads.Learnt, start-below t, start.Post) (prove-some-at t) prove-some.Post
+prove-some-sub-start t c = c .before .before .before .before .chain-of .ensures .some (omega arith)
 
--- src/provable.rt:133:12
-prove-some-prove-with-requires : (t : ℕ) → prove-some-lts.Need-prove-with-requires (candidates-reads.Asked, candidates-reads.Learnt, prove-with-below t, prove-with.Post) (prove-some-at t) prove-some.Post prove-some-Inv-loop prove-some-μ-loop
-prove-some-prove-with-requires t c κs = search needs
+-- src/provable.rt
+prove-some-sub-start-2 : (t : ℕ) → prove-some-lts.Need-sub-start-2 (deeper-reads.Asked, deeper-reads.Learnt, chain-of-reads.Asked, chain-of-reads.Learnt, start-below t, start.Post) (prove-some-at t) prove-some.Post
+prove-some-sub-start-2 t c = omega (arith, c .before .before .if1 .left)
 
--- src/provable.rt:134:13
-prove-some-same-length : (t : ℕ) → prove-some-lts.Need-same-length (candidates-reads.Asked, candidates-reads.Learnt, prove-with-below t, prove-with.Post) (prove-some-at t) prove-some.Post prove-some-Inv-loop prove-some-μ-loop
-prove-some-same-length t c = c .before .before .before .prove-with .kept .1 .1 .1 .0 ∙ c .before .before .before .before .before .before .loop .inv .1 .0
+-- src/provable.rt
+prove-some-start-requires : (t : ℕ) → prove-some-lts.Need-start-requires (deeper-reads.Asked, deeper-reads.Learnt, chain-of-reads.Asked, chain-of-reads.Learnt, start-below t, start.Post) (prove-some-at t) prove-some.Post
+prove-some-start-requires t c κs = (let l = c .before .before .before .before .chain-of .ensures .some (omega arith) in omega (arith, l, c .before .before .before .before .before .before .before .before .before .before .pre .0, c .before .before .if1 .left), tt)
 
--- src/provable.rt:134:13
-prove-some-returns : (t : ℕ) → prove-some-lts.Need-returns (candidates-reads.Asked, candidates-reads.Learnt, prove-with-below t, prove-with.Post) (prove-some-at t) prove-some.Post prove-some-Inv-loop prove-some-μ-loop
-prove-some-returns t c = let l = c .before .before .before .before .before .before .loop in
-    laws.some-hit (l .i) (c .before .before .before .before .before .before .before .candidates .result) (c .before .before .before .before .before .loop-test .taken) (c .before .before .before .before .before .before .before .candidates .ensures) (l .inv .1 .1) (l .inv .1 .0) (c .before .before .before .prove-with .ensures) (c .if1 .taken)
+-- src/provable.rt
+prove-some-same-length : (t : ℕ) → prove-some-lts.Need-same-length (deeper-reads.Asked, deeper-reads.Learnt, chain-of-reads.Asked, chain-of-reads.Learnt, start-below t, start.Post) (prove-some-at t) prove-some.Post
+prove-some-same-length t c = c .before .before .start .kept .1 .1 .1 .0
 
--- src/provable.rt:136:9
-prove-some-add-i : (t : ℕ) → prove-some-lts.Need-add-i (candidates-reads.Asked, candidates-reads.Learnt, prove-with-below t, prove-with.Post) (prove-some-at t) prove-some.Post prove-some-Inv-loop prove-some-μ-loop
-prove-some-add-i t c = search needs
-
--- src/provable.rt:132:5
-prove-some-loop-less : (t : ℕ) → prove-some-lts.Need-loop-less (candidates-reads.Asked, candidates-reads.Learnt, prove-with-below t, prove-with.Post) (prove-some-at t) prove-some.Post prove-some-Inv-loop prove-some-μ-loop
-prove-some-loop-less t c = search needs
-
--- src/provable.rt:132:5
-prove-some-loop-again : (t : ℕ) → prove-some-lts.Need-loop-again (candidates-reads.Asked, candidates-reads.Learnt, prove-with-below t, prove-with.Post) (prove-some-at t) prove-some.Post prove-some-Inv-loop prove-some-μ-loop
-prove-some-loop-again t c = let l = c .before .before .before .before .before .before .loop in
-    (omega arith, (c .before .before .before .prove-with .kept .1 .1 .1 .0 ∙ l .inv .1 .0, laws.some-miss (l .i) (c .before .before .before .before .before .before .before .candidates .result) (c .before .before .before .before .before .loop-test .taken) (c .before .before .before .before .before .before .before .candidates .ensures) (l .inv .1 .1) (l .inv .1 .0) (c .before .before .before .prove-with .ensures) (c .if1 .left)))
-
--- src/provable.rt:120:1
-prove-some-same-length-2 : (t : ℕ) → prove-some-lts.Need-same-length-2 (candidates-reads.Asked, candidates-reads.Learnt, prove-with-below t, prove-with.Post) (prove-some-at t) prove-some.Post prove-some-Inv-loop prove-some-μ-loop
-prove-some-same-length-2 t c = c .before .loop .inv .1 .0
-
--- src/provable.rt:120:1
-prove-some-returns-2 : (t : ℕ) → prove-some-lts.Need-returns-2 (candidates-reads.Asked, candidates-reads.Learnt, prove-with-below t, prove-with.Post) (prove-some-at t) prove-some.Post prove-some-Inv-loop prove-some-μ-loop
-prove-some-returns-2 t c = let l = c .before .loop in
-    laws.some-done (l .i) (c .before .before .candidates .result) (c .loop-test .left) (c .before .before .candidates .ensures) (l .inv .1 .1)
-
--- src/provable.rt:153:9
-prove-with-may-use-requires : (t : ℕ) → prove-with-lts.Need-may-use-requires (may-use-reads.Asked, may-use-reads.Learnt, push-reads.Asked, push-reads.Learnt, bound-reads.Asked, bound-reads.Learnt, prove-goal-below t, prove-goal.Post) (prove-with-at t) prove-with.Post
-prove-with-may-use-requires t c κs = search needs
-
--- src/provable.rt:154:9
-prove-with-same-length : (t : ℕ) → prove-with-lts.Need-same-length (may-use-reads.Asked, may-use-reads.Learnt, push-reads.Asked, push-reads.Learnt, bound-reads.Asked, bound-reads.Learnt, prove-goal-below t, prove-goal.Post) (prove-with-at t) prove-with.Post
-prove-with-same-length t c = search needs
-
--- src/provable.rt:154:9
-prove-with-returns : (t : ℕ) → prove-with-lts.Need-returns (may-use-reads.Asked, may-use-reads.Learnt, push-reads.Asked, push-reads.Learnt, bound-reads.Asked, bound-reads.Learnt, prove-goal-below t, prove-goal.Post) (prove-with-at t) prove-with.Post
-prove-with-returns t c = laws.with-barred (c .before .before .before .before .before .before .before .args .i) (c .before .may-use .result) (c .before .may-use .ensures) (not-true (c .before .may-use .result) (c .if1 .taken))
-
--- src/provable.rt:156:5
-prove-with-push-requires : (t : ℕ) → prove-with-lts.Need-push-requires (may-use-reads.Asked, may-use-reads.Learnt, push-reads.Asked, push-reads.Learnt, bound-reads.Asked, bound-reads.Learnt, prove-goal-below t, prove-goal.Post) (prove-with-at t) prove-with.Post
-prove-with-push-requires t c κs = search needs
-
--- src/provable.rt:157:42
-prove-with-bound-requires : (t : ℕ) → prove-with-lts.Need-bound-requires (may-use-reads.Asked, may-use-reads.Learnt, push-reads.Asked, push-reads.Learnt, bound-reads.Asked, bound-reads.Learnt, prove-goal-below t, prove-goal.Post) (prove-with-at t) prove-with.Post
-prove-with-bound-requires t c κs = search needs
-
--- src/provable.rt:157:5
-prove-with-prove-goal-requires : (t : ℕ) → prove-with-lts.Need-prove-goal-requires (may-use-reads.Asked, may-use-reads.Learnt, push-reads.Asked, push-reads.Learnt, bound-reads.Asked, bound-reads.Learnt, prove-goal-below t, prove-goal.Post) (prove-with-at t) prove-with.Post
-prove-with-prove-goal-requires t c κs = search needs
-
--- src/provable.rt:142:1
-prove-with-same-length-2 : (t : ℕ) → prove-with-lts.Need-same-length-2 (may-use-reads.Asked, may-use-reads.Learnt, push-reads.Asked, push-reads.Learnt, bound-reads.Asked, bound-reads.Learnt, prove-goal-below t, prove-goal.Post) (prove-with-at t) prove-with.Post
-prove-with-same-length-2 t c = search needs
-
--- src/provable.rt:142:1
-prove-with-returns-2 : (t : ℕ) → prove-with-lts.Need-returns-2 (may-use-reads.Asked, may-use-reads.Learnt, push-reads.Asked, push-reads.Learnt, bound-reads.Asked, bound-reads.Learnt, prove-goal-below t, prove-goal.Post) (prove-with-at t) prove-with.Post
-prove-with-returns-2 t c = laws.with-goes (c .before .before .before .before .before .before .before .before .before .before .before .before .before .before .before .before .args .i) (c .before .before .before .before .before .before .before .before .before .before .may-use .result) (c .before .before .before .before .before .before .before .before .before .before .may-use .ensures) (not-false (c .before .before .before .before .before .before .before .before .before .before .may-use .result) (c .before .before .before .before .before .before .before .before .before .if1 .left)) (c .before .before .before .bound .ensures) (laws.proving-from (c .before .before .before .before .before .before .before .push .ensures) (c .before .before .prove-goal .ensures))
+-- src/provable.rt
+prove-some-returns-2 : (t : ℕ) → prove-some-lts.Need-returns-2 (deeper-reads.Asked, deeper-reads.Learnt, chain-of-reads.Asked, chain-of-reads.Learnt, start-below t, start.Post) (prove-some-at t) prove-some.Post
+prove-some-returns-2 t c = let x = c .before .before .before .before .before .before .before .before .before .before .before .before .before .args in
+    let f = filesOf (x .rules .now) (x .goal .now) (x .terms .now) in
+    (filling.some-goes {f = f} (x .left) (c .before .before .before .before .before .before .before .before .deeper .ensures) (c .before .before .before .before .before .before .before .chain-of .ensures) (c .before .before .before .before .before .if1 .left) (c .before .before .start .ensures), filling.some-located {f = f} (x .left) (c .before .before .before .before .before .before .before .before .deeper .ensures) (c .before .before .before .before .before .before .before .chain-of .ensures) (c .before .before .before .before .before .if1 .left) (c .before .before .start .ensures))
 
 -- src/provable.rt:334:5
-start-unset-all-requires : (t : ℕ) → start-lts.Need-unset-all-requires (unset-all-reads.Asked, unset-all-reads.Learnt, match-head-reads.Asked, match-head-reads.Learnt, body-below t, body.Post, fill-below t, fill.Post) (start-at t) start.Post
+start-unset-all-requires : (t : ℕ) → start-lts.Need-unset-all-requires (unset-all-reads.Asked, unset-all-reads.Learnt, meet-reads.Asked, meet-reads.Learnt, body-below t, body.Post, fill-below t, fill.Post) (start-at t) start.Post
 start-unset-all-requires t c κs = search needs
 
 -- src/provable.rt:335:9
-start-match-head-requires : (t : ℕ) → start-lts.Need-match-head-requires (unset-all-reads.Asked, unset-all-reads.Learnt, match-head-reads.Asked, match-head-reads.Learnt, body-below t, body.Post, fill-below t, fill.Post) (start-at t) start.Post
-start-match-head-requires t c κs = search needs
+start-meet-requires : (t : ℕ) → start-lts.Need-meet-requires (unset-all-reads.Asked, unset-all-reads.Learnt, meet-reads.Asked, meet-reads.Learnt, body-below t, body.Post, fill-below t, fill.Post) (start-at t) start.Post
+start-meet-requires t c κs = search needs
 
 -- src/provable.rt:336:9
-start-same-length : (t : ℕ) → start-lts.Need-same-length (unset-all-reads.Asked, unset-all-reads.Learnt, match-head-reads.Asked, match-head-reads.Learnt, body-below t, body.Post, fill-below t, fill.Post) (start-at t) start.Post
-start-same-length t c = c .before .before .before .match-head .kept .1 .1 .1 .0 ∙ c .before .before .before .before .before .before .before .unset-all .kept .0
+start-same-length : (t : ℕ) → start-lts.Need-same-length (unset-all-reads.Asked, unset-all-reads.Learnt, meet-reads.Asked, meet-reads.Learnt, body-below t, body.Post, fill-below t, fill.Post) (start-at t) start.Post
+start-same-length t c = c .before .before .before .meet .kept .1 .1 .1 .0 ∙ c .before .before .before .before .before .before .before .unset-all .kept .0
 
 -- src/provable.rt:336:9
-start-returns : (t : ℕ) → start-lts.Need-returns (unset-all-reads.Asked, unset-all-reads.Learnt, match-head-reads.Asked, match-head-reads.Learnt, body-below t, body.Post, fill-below t, fill.Post) (start-at t) start.Post
-start-returns t c = filling.plain-settled (c .before .before .before .before .before .before .before .unset-all .ensures) (c .before .before .before .match-head .ensures) (not-true (c .before .before .before .match-head .result) (c .if1 .taken))
+start-returns : (t : ℕ) → start-lts.Need-returns (unset-all-reads.Asked, unset-all-reads.Learnt, meet-reads.Asked, meet-reads.Learnt, body-below t, body.Post, fill-below t, fill.Post) (start-at t) start.Post
+start-returns t c = filling.plain-settled (c .before .before .before .before .before .before .before .unset-all .ensures) (c .before .before .before .meet .ensures) (not-true (c .before .before .before .meet .result) (c .if1 .taken))
 
 -- src/provable.rt:338:9
-start-body-requires : (t : ℕ) → start-lts.Need-body-requires (unset-all-reads.Asked, unset-all-reads.Learnt, match-head-reads.Asked, match-head-reads.Learnt, body-below t, body.Post, fill-below t, fill.Post) (start-at t) start.Post
+start-body-requires : (t : ℕ) → start-lts.Need-body-requires (unset-all-reads.Asked, unset-all-reads.Learnt, meet-reads.Asked, meet-reads.Learnt, body-below t, body.Post, fill-below t, fill.Post) (start-at t) start.Post
 start-body-requires t c κs = (omega (arith, c .before .before .before .before .before .before .before .before .before .before .before .before .before .before .pre .0), tt)
 
 -- src/provable.rt:339:9
-start-same-length-2 : (t : ℕ) → start-lts.Need-same-length-2 (unset-all-reads.Asked, unset-all-reads.Learnt, match-head-reads.Asked, match-head-reads.Learnt, body-below t, body.Post, fill-below t, fill.Post) (start-at t) start.Post
-start-same-length-2 t c = c .before .before .before .body .kept .1 .1 .1 .0 ∙ (c .before .before .before .before .before .before .before .before .match-head .kept .1 .1 .1 .0 ∙ c .before .before .before .before .before .before .before .before .before .before .before .before .unset-all .kept .0)
+start-same-length-2 : (t : ℕ) → start-lts.Need-same-length-2 (unset-all-reads.Asked, unset-all-reads.Learnt, meet-reads.Asked, meet-reads.Learnt, body-below t, body.Post, fill-below t, fill.Post) (start-at t) start.Post
+start-same-length-2 t c = c .before .before .before .body .kept .1 .1 .1 .0 ∙ (c .before .before .before .before .before .before .before .before .meet .kept .1 .1 .1 .0 ∙ c .before .before .before .before .before .before .before .before .before .before .before .before .unset-all .kept .0)
 
 -- src/provable.rt:339:9
-start-returns-2 : (t : ℕ) → start-lts.Need-returns-2 (unset-all-reads.Asked, unset-all-reads.Learnt, match-head-reads.Asked, match-head-reads.Learnt, body-below t, body.Post, fill-below t, fill.Post) (start-at t) start.Post
-start-returns-2 t c = filling.plain-body (c .before .before .before .before .before .before .before .before .before .before .before .before .unset-all .ensures) (c .before .before .before .before .before .before .before .before .match-head .ensures) (not-false (c .before .before .before .before .before .before .before .before .match-head .result) (c .before .before .before .before .before .if1 .left)) (c .before .before .before .body .ensures) (not-true (c .before .before .before .body .result) (c .if2 .taken))
+start-returns-2 : (t : ℕ) → start-lts.Need-returns-2 (unset-all-reads.Asked, unset-all-reads.Learnt, meet-reads.Asked, meet-reads.Learnt, body-below t, body.Post, fill-below t, fill.Post) (start-at t) start.Post
+start-returns-2 t c = filling.plain-body (c .before .before .before .before .before .before .before .before .before .before .before .before .unset-all .ensures) (c .before .before .before .before .before .before .before .before .meet .ensures) (not-false (c .before .before .before .before .before .before .before .before .meet .result) (c .before .before .before .before .before .if1 .left)) (c .before .before .before .body .ensures) (not-true (c .before .before .before .body .result) (c .if2 .taken))
 
 -- src/provable.rt:341:5
-start-fill-requires : (t : ℕ) → start-lts.Need-fill-requires (unset-all-reads.Asked, unset-all-reads.Learnt, match-head-reads.Asked, match-head-reads.Learnt, body-below t, body.Post, fill-below t, fill.Post) (start-at t) start.Post
+start-fill-requires : (t : ℕ) → start-lts.Need-fill-requires (unset-all-reads.Asked, unset-all-reads.Learnt, meet-reads.Asked, meet-reads.Learnt, body-below t, body.Post, fill-below t, fill.Post) (start-at t) start.Post
 start-fill-requires t c κs = (omega (arith, c .before .before .before .before .before .before .before .before .before .before .before .before .before .before .before .before .before .before .before .pre .0), tt)
 
 -- src/provable.rt:323:1
-start-same-length-3 : (t : ℕ) → start-lts.Need-same-length-3 (unset-all-reads.Asked, unset-all-reads.Learnt, match-head-reads.Asked, match-head-reads.Learnt, body-below t, body.Post, fill-below t, fill.Post) (start-at t) start.Post
-start-same-length-3 t c = c .before .before .fill .kept .1 .1 .1 .0 ∙ (c .before .before .before .before .before .before .before .body .kept .1 .1 .1 .0 ∙ (c .before .before .before .before .before .before .before .before .before .before .before .before .match-head .kept .1 .1 .1 .0 ∙ c .before .before .before .before .before .before .before .before .before .before .before .before .before .before .before .before .unset-all .kept .0))
+start-same-length-3 : (t : ℕ) → start-lts.Need-same-length-3 (unset-all-reads.Asked, unset-all-reads.Learnt, meet-reads.Asked, meet-reads.Learnt, body-below t, body.Post, fill-below t, fill.Post) (start-at t) start.Post
+start-same-length-3 t c = c .before .before .fill .kept .1 .1 .1 .0 ∙ (c .before .before .before .before .before .before .before .body .kept .1 .1 .1 .0 ∙ (c .before .before .before .before .before .before .before .before .before .before .before .before .meet .kept .1 .1 .1 .0 ∙ c .before .before .before .before .before .before .before .before .before .before .before .before .before .before .before .before .unset-all .kept .0))
 
 -- src/provable.rt:323:1
-start-returns-3 : (t : ℕ) → start-lts.Need-returns-3 (unset-all-reads.Asked, unset-all-reads.Learnt, match-head-reads.Asked, match-head-reads.Learnt, body-below t, body.Post, fill-below t, fill.Post) (start-at t) start.Post
-start-returns-3 t c = filling.plain-goes (c .before .before .before .before .before .before .before .before .before .before .before .before .before .before .before .before .unset-all .ensures) (c .before .before .before .before .before .before .before .before .before .before .before .before .match-head .ensures) (not-false (c .before .before .before .before .before .before .before .before .before .before .before .before .match-head .result) (c .before .before .before .before .before .before .before .before .before .if1 .left)) (c .before .before .before .before .before .before .before .body .ensures) (not-false (c .before .before .before .before .before .before .before .body .result) (c .before .before .before .before .if2 .left)) (c .before .before .before .before .before .before .before .body .kept .1 .1 .1 .0) (c .before .before .fill .ensures)
+start-returns-3 : (t : ℕ) → start-lts.Need-returns-3 (unset-all-reads.Asked, unset-all-reads.Learnt, meet-reads.Asked, meet-reads.Learnt, body-below t, body.Post, fill-below t, fill.Post) (start-at t) start.Post
+start-returns-3 t c = filling.plain-goes (c .before .before .before .before .before .before .before .before .before .before .before .before .before .before .before .before .unset-all .ensures) (c .before .before .before .before .before .before .before .before .before .before .before .before .meet .ensures) (not-false (c .before .before .before .before .before .before .before .before .before .before .before .before .meet .result) (c .before .before .before .before .before .before .before .before .before .if1 .left)) (c .before .before .before .before .before .before .before .body .ensures) (not-false (c .before .before .before .before .before .before .before .body .result) (c .before .before .before .before .if2 .left)) (c .before .before .before .before .before .before .before .body .kept .1 .1 .1 .0) (c .before .before .fill .ensures)
 
 -- src/provable.rt:308:9
 through-returns : (t : ℕ) → through-lts.Need-returns (parts-of-reads.Asked, parts-of-reads.Learnt, start-below t, start.Post, has-head-reads.Asked, has-head-reads.Learnt, word-there-reads.Asked, word-there-reads.Learnt, fork-below t, fork.Post, each-below t, each.Post) (through-at t) through.Post
@@ -1475,62 +1414,62 @@ try-all-returns-2 t c = let l = c .before .before .before .before .before .befor
     filling.each-done (x .v) (l .i) (c .before .before .before .before .before .before .before .before .before .before .before .before .before .candidates .result) (c .before .before .before .before .before .loop-test .left) (c .before .before .before .before .before .before .before .before .before .before .before .before .before .candidates .ensures) (l .inv .1 .1 (x .room .now) (n .ensures) (n .kept .1 .1 .1 .0) (c .before .before .before .before .before .before .before .before .before .before .before .before .before .candidates .ensures)) (l .inv .1 .0 ∙ n .kept .1 .1 .1 .0) (c .before .before .before .word-of .ensures) (c .before .before .push .ensures)
 
 -- src/provable.rt:557:9
-try-one-may-use-requires : (t : ℕ) → try-one-lts.Need-may-use-requires (may-use-reads.Asked, may-use-reads.Learnt, word-of-reads.Asked, word-of-reads.Learnt, push-reads.Asked, push-reads.Learnt, may-be-reads.Asked, may-be-reads.Learnt, body-below t, body.Post, fill-below t, fill.Post) (try-one-at t) try-one.Post
+try-one-may-use-requires : (t : ℕ) → try-one-lts.Need-may-use-requires (may-use-reads.Asked, may-use-reads.Learnt, word-of-reads.Asked, word-of-reads.Learnt, push-reads.Asked, push-reads.Learnt, may-fit-reads.Asked, may-fit-reads.Learnt, body-below t, body.Post, fill-below t, fill.Post) (try-one-at t) try-one.Post
 try-one-may-use-requires t c κs = search needs
 
 -- src/provable.rt:558:9
-try-one-same-length : (t : ℕ) → try-one-lts.Need-same-length (may-use-reads.Asked, may-use-reads.Learnt, word-of-reads.Asked, word-of-reads.Learnt, push-reads.Asked, push-reads.Learnt, may-be-reads.Asked, may-be-reads.Learnt, body-below t, body.Post, fill-below t, fill.Post) (try-one-at t) try-one.Post
+try-one-same-length : (t : ℕ) → try-one-lts.Need-same-length (may-use-reads.Asked, may-use-reads.Learnt, word-of-reads.Asked, word-of-reads.Learnt, push-reads.Asked, push-reads.Learnt, may-fit-reads.Asked, may-fit-reads.Learnt, body-below t, body.Post, fill-below t, fill.Post) (try-one-at t) try-one.Post
 try-one-same-length t c = search needs
 
 -- src/provable.rt:558:9
-try-one-returns : (t : ℕ) → try-one-lts.Need-returns (may-use-reads.Asked, may-use-reads.Learnt, word-of-reads.Asked, word-of-reads.Learnt, push-reads.Asked, push-reads.Learnt, may-be-reads.Asked, may-be-reads.Learnt, body-below t, body.Post, fill-below t, fill.Post) (try-one-at t) try-one.Post
+try-one-returns : (t : ℕ) → try-one-lts.Need-returns (may-use-reads.Asked, may-use-reads.Learnt, word-of-reads.Asked, word-of-reads.Learnt, push-reads.Asked, push-reads.Learnt, may-fit-reads.Asked, may-fit-reads.Learnt, body-below t, body.Post, fill-below t, fill.Post) (try-one-at t) try-one.Post
 try-one-returns t c = let x = c .before .before .before .before .before .before .before .args in
     filling.with-barred (x .v) (x .i) (c .before .may-use .result) (c .before .may-use .ensures) (not-true (c .before .may-use .result) (c .if1 .taken))
 
 -- src/provable.rt:560:16
-try-one-word-of-requires : (t : ℕ) → try-one-lts.Need-word-of-requires (may-use-reads.Asked, may-use-reads.Learnt, word-of-reads.Asked, word-of-reads.Learnt, push-reads.Asked, push-reads.Learnt, may-be-reads.Asked, may-be-reads.Learnt, body-below t, body.Post, fill-below t, fill.Post) (try-one-at t) try-one.Post
+try-one-word-of-requires : (t : ℕ) → try-one-lts.Need-word-of-requires (may-use-reads.Asked, may-use-reads.Learnt, word-of-reads.Asked, word-of-reads.Learnt, push-reads.Asked, push-reads.Learnt, may-fit-reads.Asked, may-fit-reads.Learnt, body-below t, body.Post, fill-below t, fill.Post) (try-one-at t) try-one.Post
 try-one-word-of-requires t c κs = search needs
 
 -- src/provable.rt:560:5
-try-one-push-requires : (t : ℕ) → try-one-lts.Need-push-requires (may-use-reads.Asked, may-use-reads.Learnt, word-of-reads.Asked, word-of-reads.Learnt, push-reads.Asked, push-reads.Learnt, may-be-reads.Asked, may-be-reads.Learnt, body-below t, body.Post, fill-below t, fill.Post) (try-one-at t) try-one.Post
+try-one-push-requires : (t : ℕ) → try-one-lts.Need-push-requires (may-use-reads.Asked, may-use-reads.Learnt, word-of-reads.Asked, word-of-reads.Learnt, push-reads.Asked, push-reads.Learnt, may-fit-reads.Asked, may-fit-reads.Learnt, body-below t, body.Post, fill-below t, fill.Post) (try-one-at t) try-one.Post
 try-one-push-requires t c κs = search needs
 
 -- src/provable.rt:561:9
-try-one-may-be-requires : (t : ℕ) → try-one-lts.Need-may-be-requires (may-use-reads.Asked, may-use-reads.Learnt, word-of-reads.Asked, word-of-reads.Learnt, push-reads.Asked, push-reads.Learnt, may-be-reads.Asked, may-be-reads.Learnt, body-below t, body.Post, fill-below t, fill.Post) (try-one-at t) try-one.Post
-try-one-may-be-requires t c κs = search needs
+try-one-may-fit-requires : (t : ℕ) → try-one-lts.Need-may-fit-requires (may-use-reads.Asked, may-use-reads.Learnt, word-of-reads.Asked, word-of-reads.Learnt, push-reads.Asked, push-reads.Learnt, may-fit-reads.Asked, may-fit-reads.Learnt, body-below t, body.Post, fill-below t, fill.Post) (try-one-at t) try-one.Post
+try-one-may-fit-requires t c κs = search needs
 
 -- src/provable.rt:562:9
-try-one-same-length-2 : (t : ℕ) → try-one-lts.Need-same-length-2 (may-use-reads.Asked, may-use-reads.Learnt, word-of-reads.Asked, word-of-reads.Learnt, push-reads.Asked, push-reads.Learnt, may-be-reads.Asked, may-be-reads.Learnt, body-below t, body.Post, fill-below t, fill.Post) (try-one-at t) try-one.Post
+try-one-same-length-2 : (t : ℕ) → try-one-lts.Need-same-length-2 (may-use-reads.Asked, may-use-reads.Learnt, word-of-reads.Asked, word-of-reads.Learnt, push-reads.Asked, push-reads.Learnt, may-fit-reads.Asked, may-fit-reads.Learnt, body-below t, body.Post, fill-below t, fill.Post) (try-one-at t) try-one.Post
 try-one-same-length-2 t c = c .before .before .before .before .before .push .kept .0
 
 -- src/provable.rt:562:9
-try-one-returns-2 : (t : ℕ) → try-one-lts.Need-returns-2 (may-use-reads.Asked, may-use-reads.Learnt, word-of-reads.Asked, word-of-reads.Learnt, push-reads.Asked, push-reads.Learnt, may-be-reads.Asked, may-be-reads.Learnt, body-below t, body.Post, fill-below t, fill.Post) (try-one-at t) try-one.Post
+try-one-returns-2 : (t : ℕ) → try-one-lts.Need-returns-2 (may-use-reads.Asked, may-use-reads.Learnt, word-of-reads.Asked, word-of-reads.Learnt, push-reads.Asked, push-reads.Learnt, may-fit-reads.Asked, may-fit-reads.Learnt, body-below t, body.Post, fill-below t, fill.Post) (try-one-at t) try-one.Post
 try-one-returns-2 t c = let x = c .before .before .before .before .before .before .before .before .before .before .before .before .before .before .before .args in
-    filling.with-head (x .v) (x .i) (c .before .before .before .before .before .before .before .before .before .may-use .result) (c .before .before .before .before .before .before .before .before .before .may-use .ensures) (not-false (c .before .before .before .before .before .before .before .before .before .may-use .result) (c .before .before .before .before .before .before .before .before .if1 .left)) (c .before .before .before .before .before .before .word-of .ensures) (c .before .before .before .before .before .push .ensures) (c .before .may-be .ensures) (not-true (c .before .may-be .result) (c .if2 .taken))
+    filling.with-head (x .v) (x .i) (c .before .before .before .before .before .before .before .before .before .may-use .result) (c .before .before .before .before .before .before .before .before .before .may-use .ensures) (not-false (c .before .before .before .before .before .before .before .before .before .may-use .result) (c .before .before .before .before .before .before .before .before .if1 .left)) (c .before .before .before .before .before .before .word-of .ensures) (c .before .before .before .before .before .push .ensures) (c .before .may-fit .ensures) (not-true (c .before .may-fit .result) (c .if2 .taken))
 
 -- src/provable.rt:564:9
-try-one-body-requires : (t : ℕ) → try-one-lts.Need-body-requires (may-use-reads.Asked, may-use-reads.Learnt, word-of-reads.Asked, word-of-reads.Learnt, push-reads.Asked, push-reads.Learnt, may-be-reads.Asked, may-be-reads.Learnt, body-below t, body.Post, fill-below t, fill.Post) (try-one-at t) try-one.Post
+try-one-body-requires : (t : ℕ) → try-one-lts.Need-body-requires (may-use-reads.Asked, may-use-reads.Learnt, word-of-reads.Asked, word-of-reads.Learnt, push-reads.Asked, push-reads.Learnt, may-fit-reads.Asked, may-fit-reads.Learnt, body-below t, body.Post, fill-below t, fill.Post) (try-one-at t) try-one.Post
 try-one-body-requires t c κs = (omega (arith, c .before .before .before .before .before .before .before .before .before .before .before .before .before .before .before .before .pre .0), tt)
 
 -- src/provable.rt:565:9
-try-one-same-length-3 : (t : ℕ) → try-one-lts.Need-same-length-3 (may-use-reads.Asked, may-use-reads.Learnt, word-of-reads.Asked, word-of-reads.Learnt, push-reads.Asked, push-reads.Learnt, may-be-reads.Asked, may-be-reads.Learnt, body-below t, body.Post, fill-below t, fill.Post) (try-one-at t) try-one.Post
+try-one-same-length-3 : (t : ℕ) → try-one-lts.Need-same-length-3 (may-use-reads.Asked, may-use-reads.Learnt, word-of-reads.Asked, word-of-reads.Learnt, push-reads.Asked, push-reads.Learnt, may-fit-reads.Asked, may-fit-reads.Learnt, body-below t, body.Post, fill-below t, fill.Post) (try-one-at t) try-one.Post
 try-one-same-length-3 t c = c .before .before .before .body .kept .1 .1 .1 .0 ∙ c .before .before .before .before .before .before .before .before .before .before .push .kept .0
 
 -- src/provable.rt:565:9
-try-one-returns-3 : (t : ℕ) → try-one-lts.Need-returns-3 (may-use-reads.Asked, may-use-reads.Learnt, word-of-reads.Asked, word-of-reads.Learnt, push-reads.Asked, push-reads.Learnt, may-be-reads.Asked, may-be-reads.Learnt, body-below t, body.Post, fill-below t, fill.Post) (try-one-at t) try-one.Post
+try-one-returns-3 : (t : ℕ) → try-one-lts.Need-returns-3 (may-use-reads.Asked, may-use-reads.Learnt, word-of-reads.Asked, word-of-reads.Learnt, push-reads.Asked, push-reads.Learnt, may-fit-reads.Asked, may-fit-reads.Learnt, body-below t, body.Post, fill-below t, fill.Post) (try-one-at t) try-one.Post
 try-one-returns-3 t c = let x = c .before .before .before .before .before .before .before .before .before .before .before .before .before .before .before .before .before .before .before .before .args in
     filling.with-body (x .v) (x .i) (c .before .before .before .before .before .before .before .before .before .before .before .before .before .before .may-use .result) (c .before .before .before .before .before .before .before .before .before .before .before .before .before .before .may-use .ensures) (not-false (c .before .before .before .before .before .before .before .before .before .before .before .before .before .before .may-use .result) (c .before .before .before .before .before .before .before .before .before .before .before .before .before .if1 .left)) (c .before .before .before .before .before .before .before .before .before .before .before .word-of .ensures) (c .before .before .before .before .before .before .before .before .before .before .push .ensures) (c .before .before .before .body .ensures) (not-true (c .before .before .before .body .result) (c .if3 .taken))
 
 -- src/provable.rt:567:5
-try-one-fill-requires : (t : ℕ) → try-one-lts.Need-fill-requires (may-use-reads.Asked, may-use-reads.Learnt, word-of-reads.Asked, word-of-reads.Learnt, push-reads.Asked, push-reads.Learnt, may-be-reads.Asked, may-be-reads.Learnt, body-below t, body.Post, fill-below t, fill.Post) (try-one-at t) try-one.Post
+try-one-fill-requires : (t : ℕ) → try-one-lts.Need-fill-requires (may-use-reads.Asked, may-use-reads.Learnt, word-of-reads.Asked, word-of-reads.Learnt, push-reads.Asked, push-reads.Learnt, may-fit-reads.Asked, may-fit-reads.Learnt, body-below t, body.Post, fill-below t, fill.Post) (try-one-at t) try-one.Post
 try-one-fill-requires t c κs = (omega (arith, c .before .before .before .before .before .before .before .before .before .before .before .before .before .before .before .before .before .before .before .before .before .pre .0), tt)
 
 -- src/provable.rt:544:1
-try-one-same-length-4 : (t : ℕ) → try-one-lts.Need-same-length-4 (may-use-reads.Asked, may-use-reads.Learnt, word-of-reads.Asked, word-of-reads.Learnt, push-reads.Asked, push-reads.Learnt, may-be-reads.Asked, may-be-reads.Learnt, body-below t, body.Post, fill-below t, fill.Post) (try-one-at t) try-one.Post
+try-one-same-length-4 : (t : ℕ) → try-one-lts.Need-same-length-4 (may-use-reads.Asked, may-use-reads.Learnt, word-of-reads.Asked, word-of-reads.Learnt, push-reads.Asked, push-reads.Learnt, may-fit-reads.Asked, may-fit-reads.Learnt, body-below t, body.Post, fill-below t, fill.Post) (try-one-at t) try-one.Post
 try-one-same-length-4 t c = c .before .before .fill .kept .1 .1 .1 .0 ∙ (c .before .before .before .before .before .before .before .body .kept .1 .1 .1 .0 ∙ c .before .before .before .before .before .before .before .before .before .before .before .before .before .before .push .kept .0)
 
 -- src/provable.rt:544:1
-try-one-returns-4 : (t : ℕ) → try-one-lts.Need-returns-4 (may-use-reads.Asked, may-use-reads.Learnt, word-of-reads.Asked, word-of-reads.Learnt, push-reads.Asked, push-reads.Learnt, may-be-reads.Asked, may-be-reads.Learnt, body-below t, body.Post, fill-below t, fill.Post) (try-one-at t) try-one.Post
+try-one-returns-4 : (t : ℕ) → try-one-lts.Need-returns-4 (may-use-reads.Asked, may-use-reads.Learnt, word-of-reads.Asked, word-of-reads.Learnt, push-reads.Asked, push-reads.Learnt, may-fit-reads.Asked, may-fit-reads.Learnt, body-below t, body.Post, fill-below t, fill.Post) (try-one-at t) try-one.Post
 try-one-returns-4 t c = let x = c .before .before .before .before .before .before .before .before .before .before .before .before .before .before .before .before .before .before .before .before .before .before .before .before .args in
     filling.with-goes (x .v) (x .i) (c .before .before .before .before .before .before .before .before .before .before .before .before .before .before .before .before .before .before .may-use .result) (c .before .before .before .before .before .before .before .before .before .before .before .before .before .before .before .before .before .before .may-use .ensures) (not-false (c .before .before .before .before .before .before .before .before .before .before .before .before .before .before .before .before .before .before .may-use .result) (c .before .before .before .before .before .before .before .before .before .before .before .before .before .before .before .before .before .if1 .left)) (c .before .before .before .before .before .before .before .before .before .before .before .before .before .before .before .word-of .ensures) (c .before .before .before .before .before .before .before .before .before .before .before .before .before .before .push .ensures) (c .before .before .before .before .before .before .before .body .ensures) (not-false (c .before .before .before .before .before .before .before .body .result) (c .before .before .before .before .if3 .left)) (c .before .before .before .before .before .before .before .body .kept .1 .1 .1 .0) (c .before .before .fill .ensures)
 
@@ -1618,9 +1557,9 @@ use-clause-same-length-2 t c = search needs
 use-clause-returns-2 : (t : ℕ) → use-clause-lts.Need-returns-2 (open-clause-reads.Asked, open-clause-reads.Learnt, through-below t, through.Post) (use-clause-at t) use-clause.Post
 use-clause-returns-2 t c = (passing.by-clause (c .before .before .before .before .before .before .before .before .before .before .before .before .before .before .before .args .k) (c .before .before .before .before .before .before .before .before .before .open-clause .ensures) (c .before .before .before .before .before .x .given .1) (c .before .before .through .ensures .0), locating.located-by (c .before .before .before .before .before .before .before .before .before .before .before .before .before .before .before .args .k) (c .before .before .before .before .before .before .before .before .before .open-clause .ensures) (c .before .before .before .before .before .x .given .1) (c .before .before .through .ensures .1))
 
-pub +ask+body+both+decide+each+fill+find-clause+fork+look+look-and+prove-all+prove-atom+prove-goal+prove-or+prove-some+prove-with+start+through+through-with+try-all+try-one+under+use-clause-spec :
+pub +ask+body+both+decide+each+fill+find-clause+fork+look+look-and+prove-all+prove-atom+prove-goal+prove-or+prove-some+start+through+through-with+try-all+try-one+under+use-clause-spec :
     {M : Type 1} → statement M
-+ask+body+both+decide+each+fill+find-clause+fork+look+look-and+prove-all+prove-atom+prove-goal+prove-or+prove-some+prove-with+start+through+through-with+try-all+try-one+under+use-clause-spec =
++ask+body+both+decide+each+fill+find-clause+fork+look+look-and+prove-all+prove-atom+prove-goal+prove-or+prove-some+start+through+through-with+try-all+try-one+under+use-clause-spec =
     close
     μ-ask
     μ-body
@@ -1637,7 +1576,6 @@ pub +ask+body+both+decide+each+fill+find-clause+fork+look+look-and+prove-all+pro
     μ-prove-goal
     μ-prove-or
     μ-prove-some
-    μ-prove-with
     μ-start
     μ-through
     μ-through-with
@@ -1738,8 +1676,8 @@ pub +ask+body+both+decide+each+fill+find-clause+fork+look+look-and+prove-all+pro
     (each-same-length-2 t)
     (each-returns-2 t))
     (λ t. fill-lts.spec (
-      same-atoms-reads.Asked,
-      same-atoms-reads.Learnt,
+      fits-reads.Asked,
+      fits-reads.Learnt,
       is-open-reads.Asked,
       is-open-reads.Learnt,
       try-all-below t,
@@ -1749,7 +1687,7 @@ pub +ask+body+both+decide+each+fill+find-clause+fork+look+look-and+prove-all+pro
     )
     (fill-at t)
     fill.Post
-    (fill-same-atoms-requires t)
+    (fill-fits-requires t)
     (fill-same-length t)
     (fill-returns t)
     (fill-sub-is-open t)
@@ -1982,50 +1920,28 @@ pub +ask+body+both+decide+each+fill+find-clause+fork+look+look-and+prove-all+pro
     (prove-or-same-length-2 t)
     (prove-or-returns-3 t))
     (λ t. prove-some-lts.spec (
-      candidates-reads.Asked,
-      candidates-reads.Learnt,
-      prove-with-below t,
-      prove-with.Post,
+      deeper-reads.Asked,
+      deeper-reads.Learnt,
+      chain-of-reads.Asked,
+      chain-of-reads.Learnt,
+      start-below t,
+      start.Post,
     )
     (prove-some-at t)
     prove-some.Post
-    prove-some-Inv-loop
-    prove-some-μ-loop
-    (prove-some-candidates-requires t)
-    (prove-some-loop-holds t)
-    (prove-some-prove-with-requires t)
-    (prove-some-same-length t)
+    (prove-some-deeper-requires t)
+    (prove-some-chain-of-requires t)
     (prove-some-returns t)
-    (prove-some-add-i t)
-    (prove-some-loop-less t)
-    (prove-some-loop-again t)
-    (prove-some-same-length-2 t)
+    (prove-some-sub-start t)
+    (prove-some-sub-start-2 t)
+    (prove-some-start-requires t)
+    (prove-some-same-length t)
     (prove-some-returns-2 t))
-    (λ t. prove-with-lts.spec (
-      may-use-reads.Asked,
-      may-use-reads.Learnt,
-      push-reads.Asked,
-      push-reads.Learnt,
-      bound-reads.Asked,
-      bound-reads.Learnt,
-      prove-goal-below t,
-      prove-goal.Post,
-    )
-    (prove-with-at t)
-    prove-with.Post
-    (prove-with-may-use-requires t)
-    (prove-with-same-length t)
-    (prove-with-returns t)
-    (prove-with-push-requires t)
-    (prove-with-bound-requires t)
-    (prove-with-prove-goal-requires t)
-    (prove-with-same-length-2 t)
-    (prove-with-returns-2 t))
     (λ t. start-lts.spec (
       unset-all-reads.Asked,
       unset-all-reads.Learnt,
-      match-head-reads.Asked,
-      match-head-reads.Learnt,
+      meet-reads.Asked,
+      meet-reads.Learnt,
       body-below t,
       body.Post,
       fill-below t,
@@ -2034,7 +1950,7 @@ pub +ask+body+both+decide+each+fill+find-clause+fork+look+look-and+prove-all+pro
     (start-at t)
     start.Post
     (start-unset-all-requires t)
-    (start-match-head-requires t)
+    (start-meet-requires t)
     (start-same-length t)
     (start-returns t)
     (start-body-requires t)
@@ -2145,8 +2061,8 @@ pub +ask+body+both+decide+each+fill+find-clause+fork+look+look-and+prove-all+pro
       word-of-reads.Learnt,
       push-reads.Asked,
       push-reads.Learnt,
-      may-be-reads.Asked,
-      may-be-reads.Learnt,
+      may-fit-reads.Asked,
+      may-fit-reads.Learnt,
       body-below t,
       body.Post,
       fill-below t,
@@ -2159,7 +2075,7 @@ pub +ask+body+both+decide+each+fill+find-clause+fork+look+look-and+prove-all+pro
     (try-one-returns t)
     (try-one-word-of-requires t)
     (try-one-push-requires t)
-    (try-one-may-be-requires t)
+    (try-one-may-fit-requires t)
     (try-one-same-length-2 t)
     (try-one-returns-2 t)
     (try-one-body-requires t)
