@@ -1,18 +1,18 @@
 // A search in three parts, once the room is set out: whether there is a strip, the strip drawn once with its measures, and its bytes copied. The buffer is touched by the last of them alone,
 // when the whole answer is known (document 01, "Which strip the search writes", "What comes back").
-use proposal::Proposal;
+use drawing::Drawn;
 use keys::fill_keys;
 use narrow::fill_heads;
 use packet::File;
 use packet::Reason;
 use pen::put;
+use proposal::Proposal;
 use provable::prove_goal;
 use reader::Read;
 use reader::read_books;
 use start::fill_tables;
 use start::first_place;
 use table::empty_all;
-use drawing::Drawn;
 use writer::write_goal;
 ghost use mathlib.Core.Path.{_≡_};
 ghost use Prim.Native.Nat.{min};

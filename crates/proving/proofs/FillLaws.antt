@@ -202,11 +202,11 @@ module _ {f : Files} {room : List ℕ} {w : Where} {p : Parts} {left : ℕ} wher
   -- the frame filled: every variable is set, so the head decides, and all of the body was looked at
   pub fill-end : {r : Bool} (k : ℕ) → k ≡ 0 → Fits f room w p r → FillingFrom f room room w p k left r
   fill-end {r} k z s ds us o c bs a e fr t l n looked = (
-        record { kept = keeps-same room; whole = λ y i q. refl },
-        subst (λ (y : ℕ). Filled us left o c bs a e (p .own) y fr (bindingsAt room (p .head)) r) {x = 0} {y = k} (sym z)
-            (subst (λ (y : Bindings). Filled us left o c bs a e (p .own) 0 fr y r) (sym (frame-is t))
-            (filled us left o c bs a e (headOf e) (p .own) fr r (has-head f room p e fr (t .parts)) (λ i. n i (omega (arith, z))) looked (s ds us left o c bs a e fr t))),
-      )
+    record { kept = keeps-same room; whole = λ y i q. refl },
+    subst (λ (y : ℕ). Filled us left o c bs a e (p .own) y fr (bindingsAt room (p .head)) r) {x = 0} {y = k} (sym z)
+        (subst (λ (y : Bindings). Filled us left o c bs a e (p .own) 0 fr y r) (sym (frame-is t))
+        (filled us left o c bs a e (headOf e) (p .own) fr r (has-head f room p e fr (t .parts)) (λ i. n i (omega (arith, z))) looked (s ds us left o c bs a e fr t))),
+  )
 
   -- variable k - 1 is unset, or it is set
   pub fill-here : {after : List ℕ} {b r : Bool} (k : ℕ) → (k ≡ 0 → ⊥) → b ≡ isOpen (p .own) (bindingsAt room (p .head)) (k - 1) → b ≡ true → FillingEach f room after w p (k - 1) left r → FillingFrom f room after w p k left r

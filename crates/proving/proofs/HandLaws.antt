@@ -17,10 +17,14 @@ use Rattle.harrop.proofs.ListLaws.{below-member, beyond-none}
 use Rattle.sexp.specs.Sexp.{Stands, nesting}
 use Rattle.packet.specs.Written.{clauseSexp}
 use Rattle.packet.specs.Barred.{clauseOk}
+use Rattle.packet.specs.declared.Word.{Word}
+use Rattle.packet.specs.declared.Word.the-variants as W
+use Rattle.reader.specs.WordAt.{WordAt}
+use Rattle.reader.proofs.WordLaws.{word-answer}
 use Rattle.room.specs.Layout.{levels, rulesWord, ruleWord, stack}
 use Rattle.room.specs.Frame.{bindingsIn, copied}
 use Rattle.room.specs.Spot.{fileOf, bindingsAt, supposedIn}
-use Rattle.room.specs.Where.{Files, Live, Means}
+use Rattle.room.specs.Where.{Files, Live, Means, plus}
 use Rattle.room.specs.declared.Source.the-variants as S
 use Rattle.room.specs.declared.Spot.{Spot}
 use Rattle.room.specs.declared.Where.{Where}
@@ -175,3 +179,14 @@ module _ {f : Files} {room : List ℕ} {ds : List (Clause Plain)} {us : List Ter
       under : (i : ℕ) → Live (w .supposed) (w .top) i → stack ≤ w .top → i < w .top
       under i (Live.low l) s = omega (arith, r .enough .supposed, s, l)
       under i (Live.high l h) s = h
+
+-- the offset of the word that says what rule k is, as the code makes it
+pub fact-at : (room : List ℕ) (k : ℕ) {i n at : ℕ} → i ≡ plus 1 k → n ≡ getD room i 0 → at ≡ plus n 1 → at ≡ plus (getD room (plus 1 k) 0) 1
+fact-at room k p q r = r ∙ ap (λ (x : ℕ). plus x 1) (q ∙ ap (λ (x : ℕ). getD room x 0) p)
+
+-- a word there is the atom's, or none there is
+pub fact-word : {s : List ℕ} {at there : ℕ} {w : Word} → at ≡ there → WordAt s at w → w ≡ W.Atom → WordAt s there W.Atom
+fact-word {s} {at} {there} {w} e h q = subst (λ (x : Word). WordAt s there x) q (subst (λ (x : ℕ). WordAt s x w) e h)
+
+pub no-fact-word : {s : List ℕ} {at there : ℕ} {w : Word} → at ≡ there → WordAt s at w → (w ≡ W.Atom → ⊥) → WordAt s there W.Atom → ⊥
+no-fact-word {s} {at} {there} {w} e h n g = n (word-answer s there w W.Atom (subst (λ (x : ℕ). WordAt s x w) e h) g)

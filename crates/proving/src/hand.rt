@@ -11,6 +11,9 @@ ghost use mathlib.Core.Path.{_≡_};
 ghost use lib.ListN.{getD};
 ghost use Rattle.room.specs.Layout.{rulesWord, candidatesWord};
 ghost use Rattle.room.specs.Where as places;
+ghost use Rattle.basics.specs.Tells.{Tells};
+ghost use Rattle.packet.specs.declared.Word.the-variants as W;
+ghost use Rattle.reader.specs.WordAt.{WordAt};
 ghost use Rattle.proving.specs.Hand.{clauseIn, Opened};
 ghost use Rattle.proving.specs.Hand as hand;
 
@@ -57,7 +60,9 @@ fn at_hand(room: &[u32], k: usize, supposes: usize) -> Chosen
 }
 
 // Whether rule k is an atom with nothing around it.
-pub fn is_fact(rules: &[u8], room: &[u32], k: usize) -> bool {
+pub fn is_fact(rules: &[u8], room: &[u32], k: usize) -> bool
+    ensures { λ r. ⌜ Tells r (WordAt (now (rules .entry)) (places.plus (getD (now (room .entry)) (places.plus 1 k) 0) 1) W.Atom) ⌝ }
+{
     let at = word(room, plus(1, k)) as usize;
     match word_at(rules, plus(at, 1)) {
         Word::Atom => true,

@@ -2,14 +2,14 @@
 // (document 01, "Which strip the search writes"). A node draws its head, lends the remaining part of the buffer to the writer of each of its parts, and draws its closing parenthesis behind them. `at` is 0 but for a part
 // that begins beyond the buffer's end, where nothing is written and the strip is only measured.
 use drawing::Drawn;
-use drawing::first_clause;
-use drawing::first_with;
-use drawing::number_through;
 use drawing::behind;
 use drawing::beside;
 use drawing::close;
 use drawing::cut;
+use drawing::first_clause;
+use drawing::first_with;
 use drawing::nothing;
+use drawing::number_through;
 use drawing::shut;
 use drawing::top;
 use harrop::Binding;
@@ -23,12 +23,12 @@ use places::plus;
 use places::supposes;
 use places::within;
 use places::word_there;
+use provable::prove_goal;
+use provable::through;
 use proving::Chosen;
 use proving::deeper;
 use proving::is_plain;
 use proving::open_clause;
-use provable::prove_goal;
-use provable::through;
 use room::Spot;
 use room::Where;
 use room::push;
