@@ -9,40 +9,40 @@ use borrow.Author.Tests.{lt-ltb, le-ltb, le-leb, lt-leb, leb-true, leb-false, eq
 use Rattle.basics.specs.Choice.{both-true}
 use Rattle.table.specs.Slots.{tableWord, slotFor}
 
-pub slot-none : (n key : ℕ) → n < 4624 → (0 ≡ slotFor n key) × (0 % 16 ≡ 0)
+pub slot-none : (n key : ℕ) → n < 5392 → (0 ≡ slotFor n key) × (0 % 16 ≡ 0)
 unfolding slotFor
-slot-none n key h = (rw (lt-ltb n 4624 h) refl, omega arith)
+slot-none n key h = (rw (lt-ltb n 5392 h) refl, omega arith)
 
-pub slot-some : (n key : ℕ) → 4624 ≤ n → (4608 + 16 * (key % ((n - 4608) / 16)) ≡ slotFor n key) × ((4608 + 16 * (key % ((n - 4608) / 16))) % 16 ≡ 0)
+pub slot-some : (n key : ℕ) → 5392 ≤ n → (5376 + 16 * (key % ((n - 5376) / 16)) ≡ slotFor n key) × ((5376 + 16 * (key % ((n - 5376) / 16))) % 16 ≡ 0)
 unfolding slotFor
-slot-some n key h = (rw (le-ltb n 4624 h) refl, omega arith)
+slot-some n key h = (rw (le-ltb n 5392 h) refl, omega arith)
 
 -- so its number fits a machine word, as the room's length does
-pub slot-fits : (n key : ℕ) → 4624 ≤ n → 4608 + 16 * (key % ((n - 4608) / 16)) + 16 ≤ n
+pub slot-fits : (n key : ℕ) → 5392 ≤ n → 5376 + 16 * (key % ((n - 5376) / 16)) + 16 ≤ n
 slot-fits n key h =
-    let some : 0 < (n - 4608) / 16 = omega arith in
-    let z : key % ((n - 4608) / 16) < (n - 4608) / 16 = mod-lt key some in
+    let some : 0 < (n - 5376) / 16 = omega arith in
+    let z : key % ((n - 5376) / 16) < (n - 5376) / 16 = mod-lt key some in
     omega arith
 
-pub outside-low : (n at : ℕ) → at < 4608 → false ≡ (leb tableWord at && leb (at + 16) n)
+pub outside-low : (n at : ℕ) → at < 5376 → false ≡ (leb tableWord at && leb (at + 16) n)
 outside-low n at h = rw (lt-leb tableWord at h) refl
 
-pub outside-high : (n at : ℕ) → 4608 ≤ at → n < at + 16 → false ≡ (leb tableWord at && leb (at + 16) n)
+pub outside-high : (n at : ℕ) → 5376 ≤ at → n < at + 16 → false ≡ (leb tableWord at && leb (at + 16) n)
 outside-high n at l h = rw (le-leb tableWord at l, lt-leb (at + 16) n h) refl
 
-pub inside-some : (n at : ℕ) → 4608 ≤ at → 16 ≤ n → leb at (n - 16) ≡ (leb tableWord at && leb (at + 16) n)
+pub inside-some : (n at : ℕ) → 5376 ≤ at → 16 ≤ n → leb at (n - 16) ≡ (leb tableWord at && leb (at + 16) n)
 inside-some n at l k = rw (le-leb tableWord at l) (go (leb at (n - 16)) refl)
   where
     go : (t : Bool) → leb at (n - 16) ≡ t → t ≡ leb (at + 16) n
     go true e = let z = leb-true at (n - 16) e in sym (le-leb (at + 16) n (omega arith))
     go false e = let z = leb-false at (n - 16) e in sym (lt-leb (at + 16) n (omega arith))
 
-pub inside-bounds : (r : Bool) (n at : ℕ) → r ≡ (leb tableWord at && leb (at + 16) n) → r ≡ true → (4608 ≤ at) × (at + 16 ≤ n)
+pub inside-bounds : (r : Bool) (n at : ℕ) → r ≡ (leb tableWord at && leb (at + 16) n) → r ≡ true → (5376 ≤ at) × (at + 16 ≤ n)
 inside-bounds r n at e t =
     let (a, b) = both-true (leb tableWord at) (leb (at + 16) n) (sym e ∙ t) in
     (leb-true tableWord at a, leb-true (at + 16) n b)
 
-pub inside-not : (r : Bool) (n at : ℕ) → r ≡ (leb tableWord at && leb (at + 16) n) → r ≡ false → 4608 ≤ at → n < at + 16
+pub inside-not : (r : Bool) (n at : ℕ) → r ≡ (leb tableWord at && leb (at + 16) n) → r ≡ false → 5376 ≤ at → n < at + 16
 inside-not r n at e t l = leb-false (at + 16) n (rw (le-leb tableWord at l) at (sym e ∙ t))
 
 pub marks-zero : (w n : ℕ) → w ≡ 0 → false ≡ eqb w (n + 1)

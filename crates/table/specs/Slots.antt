@@ -1,4 +1,4 @@
--- The table's slots in what is left of the work room (document 02, Three): which words a slot has and what each holds. A slot is 16 words and begins at a multiple of 16, from word 4,608 on:
+-- The table's slots in what is left of the work room (document 02, Three): which words a slot has and what each holds. A slot is 16 words and begins at a multiple of 16, from word 5,376 on:
 -- the source, the offset and the number of bindings of an atom, the supposed clauses and one more (0: the slot is empty), the parameters, the height at which it failed and the height at which it is proved (0: none), and from the ninth word on its bindings, at most 8.
 -- So a slot is itself a spot.
 use Prim.Native.Nat.{ℕ, _+_, _-_, _*_, _/_, _%_, _≤_, _<_}
@@ -16,7 +16,7 @@ use Rattle.room.specs.declared.Spot.{Spot}
 
 -- the first word of the table
 abbrev pub tableWord : ℕ
-tableWord = 4608
+tableWord = 5376
 
 abbrev pub slotWords : ℕ
 slotWords = 16
@@ -29,7 +29,7 @@ pub record Slot (words at : ℕ) : Type 0 where
 
 -- the slot of a key, in a room of so many words; 0 where there is none
 unfoldable pub slotFor : ℕ → ℕ → ℕ
-slotFor words key = choose (ltb words 4624) 0 (tableWord + slotWords * (key % ((words - tableWord) / slotWords)))
+slotFor words key = choose (ltb words 5392) 0 (tableWord + slotWords * (key % ((words - tableWord) / slotWords)))
 
 -- a slot's words
 abbrev pub countOf : List ℕ → ℕ → ℕ

@@ -24,7 +24,7 @@ fn fits(x: Spot, supposed: usize, parameters: usize, height: usize) -> bool
     if 8 < x.count {
         return false;
     }
-    if 4472 < x.base {
+    if 5240 < x.base {
         return false;
     }
     if 0xffff_ffff < x.at {
@@ -107,7 +107,7 @@ pub fn forget(room: &mut [u32], supposed: usize)
     ensures only { λ _. ⌜ TableOnly (now (room .entry)) (now (room .exit)) ⌝ }
     ensures gone { λ _. ⌜ Forgets (now (room .entry)) (now (room .exit)) supposed ⌝ }
 {
-    let mut at: usize = 4608;
+    let mut at: usize = 5376;
     while inside(room.len(), at) {
         empty(room, at, supposed);
         at += 16;
@@ -119,7 +119,7 @@ pub fn empty_all(room: &mut [u32])
     ensures only { λ _. ⌜ TableOnly (now (room .entry)) (now (room .exit)) ⌝ }
     ensures none { λ _. ⌜ Empty (now (room .exit)) ⌝ }
 {
-    let mut at: usize = 4608;
+    let mut at: usize = 5376;
     while inside(room.len(), at) {
         put(room, at, 3, 0);
         at += 16;

@@ -15,17 +15,17 @@ pub fn slot_for(room: &[u32], key: usize) -> usize
     ensures { λ r. ⌜ (r ≡ slotFor (length (now (room .entry))) key) × (r % 16 ≡ 0) ⌝ }
 {
     let words = room.len();
-    if words < 4624 {
+    if words < 5392 {
         return 0;
     }
-    4608 + 16 * (key % ((words - 4608) / 16))
+    5376 + 16 * (key % ((words - 5376) / 16))
 }
 
 // Whether 16 words of the table are there from a word on.
 pub(crate) fn inside(words: usize, at: usize) -> bool
     ensures { λ r. ⌜ r ≡ leb tableWord at && leb (at + 16) words ⌝ }
 {
-    if at < 4608 {
+    if at < 5376 {
         return false;
     }
     if words < 16 {
