@@ -57,7 +57,7 @@ pub adds-not : (marks : List ℕ) {says : Type 0} → Adds marks marks false say
 adds-not marks = record { more = more-none marks; told = λ e. absurd (false≢true e) }
 
 -- not one candidate left out has the term of one that is marked and is the lowest with it
-forced-out : (us : List Term) (marks : List ℕ) (n i : ℕ) → ((j : ℕ) → j < n → meant us (Candidate j) ≡ meant us (Candidate n) → ⊥) → LeftOut us (set marks n 1) i → meant us (Candidate i) ≡ meant us (Candidate n) → ⊥
+pub forced-out : (us : List Term) (marks : List ℕ) (n i : ℕ) → ((j : ℕ) → j < n → meant us (Candidate j) ≡ meant us (Candidate n) → ⊥) → LeftOut us (set marks n 1) i → meant us (Candidate i) ≡ meant us (Candidate n) → ⊥
 forced-out us marks n i low L e = go (ltb i n) refl (ltb n i) refl
   where
     go : (b : Bool) → ltb i n ≡ b → (d : Bool) → ltb n i ≡ d → ⊥

@@ -27,9 +27,12 @@ use Rattle.room.proofs.WhereLaws.{file-small}
 use Rattle.heads.specs.Predicate.{bytesAt, AtomThere, HasHead}
 use Rattle.heads.proofs.HeadLaws.{clause-says, clause-is}
 use Rattle.keys.specs.Keys.{PredicateKeyAt}
+use Rattle.arguments.specs.Arguments.{ArgumentsAre}
 use Rattle.narrow.specs.Heads.{headOf, HeadIn}
-use Rattle.narrow.specs.Narrow.{NoHead, Gives, Known, ByHead, ByRule, ByOne, ByClause, More, Adds, ruleSpot}
+use Rattle.narrow.specs.Kept.{noVariable, Says}
+use Rattle.narrow.specs.Narrow.{NoHead, Gives, Known, ByHead, ByFact, ByRule, ByOne, ByClause, More, Adds, ruleSpot}
 use Rattle.narrow.proofs.FillLaws.{head-nests}
+use Rattle.narrow.proofs.KeptLaws.{no-frame}
 use Rattle.narrow.proofs.NoHeadLaws.{headless, one-head, other-number, no-variables, head-ok, one-fact}
 use Rattle.narrow.proofs.MarkLaws.{more-none, more-then, gives-more}
 
@@ -37,20 +40,20 @@ atom-there : {f : Files} {x : Spot} {a : Atom} → AtomAt (f .rules) (f .goal) (
 atom-there X = record { stands = X .stands; shallow = X .shallow }
 
 -- rule k
-module _ (f : Files) (room : List ℕ) (x : Spot) (own v predicate k : ℕ) (marks : List ℕ) where
+module _ (f : Files) (room : List ℕ) (x : Spot) (own v predicate asked k : ℕ) (marks : List ℕ) where
   -- an `and` is on the way to its heads: none has the atom's predicate
-  pub rule-headless : {y : Spot} (b : Bool) → y ≡ ruleSpot room (1 + k) → HasHead f y x 64 b → Adds marks marks (not b) (ByRule f room x own v predicate marks k)
+  pub rule-headless : {y : Spot} (b : Bool) → y ≡ ruleSpot room (1 + k) → HasHead f y x 64 b → Adds marks marks (not b) (ByRule f room x own v predicate asked marks k)
   rule-headless b e H = record {
     more = more-none marks;
-    told = λ t P ds us a N d m i es G.
+    told = λ t P ds us a N Q d m i es G.
         let there = subst (λ (z : Spot). HasHead f z x 64 b) e H d a (N .booked .shallow k d m) (record { stands = N .booked .rules .starts k d m; shallow = N .booked .shallow k d m; small = N .booked .rules-small }) (atom-there (N .atom)) in
         headless us es a d (sym there ∙ not-true b t) [];
   }
 
   module _ {p : ℕ} (e : p ≡ getD room (3712 + k) 0) (some-key : p ≡ 0 → ⊥) where
     -- its head has another predicate
-    pub rule-other : (p ≡ predicate → ⊥) → Adds marks marks true (ByRule f room x own v predicate marks k)
-    rule-other other = record { more = more-none marks; told = λ t P ds us a N d m i es G. go P ds us a N d m es (headOf d) refl (N .heads k d m) }
+    pub rule-other : (p ≡ predicate → ⊥) → Adds marks marks true (ByRule f room x own v predicate asked marks k)
+    rule-other other = record { more = more-none marks; told = λ t P ds us a N Q d m i es G. go P ds us a N d m es (headOf d) refl (N .heads k d m) }
       where
         go : PredicateKeyAt f x predicate → (ds : List (Clause Plain)) (us : List Term) (a : Atom) → Known f room ds us x a → (d : Clause Plain) → getElem? ds k ≡ some d → (es : Bindings)
             → (o : Option Atom) → headOf d ≡ o → HeadIn room (f .rules) k o → NoHead us [] d (replacedAtom us es a)
@@ -59,14 +62,14 @@ module _ (f : Files) (room : List ℕ) (x : Spot) (own v predicate k : ℕ) (mar
             one-head us (replacedAtom us es a) b (λ bs. other-number us es bs b a (λ w. other (e ∙ h .0 ∙ w ∙ sym (P a (atom-there (N .atom)))))) d z []
 
     -- its head has no variables, by its number
-    pub rule-fact : {w : ℕ} {y : Spot} {after : List ℕ} (r : Bool) → w ≡ getD room (3200 + k) 0 → (w % 2 ≡ 0 → ⊥) → y ≡ ruleSpot room (3968 + k) → Adds marks after r (ByHead f room x y own v after)
-        → Adds marks after r (ByRule f room x own v predicate after k)
-    rule-fact {w} {y} {after} r g odd j A = record { more = A .more; told = λ t P ds us a N d m i es G. go t ds us a N d m i es G (headOf d) refl (N .heads k d m) }
+    pub rule-fact : {w : ℕ} {y : Spot} {after : List ℕ} (r : Bool) → w ≡ getD room (3200 + k) 0 → (w % 2 ≡ 0 → ⊥) → y ≡ ruleSpot room (3968 + k) → {kept : ℕ} → kept ≡ getD room (4608 + k) 0 → Adds marks after r (ByFact f room x y own v asked kept after)
+        → Adds marks after r (ByRule f room x own v predicate asked after k)
+    rule-fact {w} {y} {after} r g odd j {kept} n A = record { more = A .more; told = λ t P ds us a N Q d m i es G. go t ds us a N Q d m i es G (headOf d) refl (N .heads k d m) }
       where
-        go : r ≡ true → (ds : List (Clause Plain)) (us : List Term) (a : Atom) → Known f room ds us x a → (d : Clause Plain) → getElem? ds k ≡ some d → (i : ℕ) (es : Bindings) → Gives room us x own v after i es
+        go : r ≡ true → (ds : List (Clause Plain)) (us : List Term) (a : Atom) → Known f room ds us x a → ArgumentsAre us own (bindingsAt room x) v a asked → (d : Clause Plain) → getElem? ds k ≡ some d → (i : ℕ) (es : Bindings) → Gives room us x own v after i es
             → (o : Option Atom) → headOf d ≡ o → HeadIn room (f .rules) k o → NoHead us [] d (replacedAtom us es a)
-        go t ds us a N d m i es G none z h = absurd (some-key (e ∙ h))
-        go t ds us a N d m i es G (some b) z h =
+        go t ds us a N Q d m i es G none z h = absurd (some-key (e ∙ h))
+        go t ds us a N Q d m i es G (some b) z h =
             let closed = no-variables d b z (λ q. odd (ap (λ (n : ℕ). n % 2) (g ∙ N .keys .rules k d m) ∙ q)) in
             let Y : AtomAt (f .rules) (f .goal) (f .terms) (ruleSpot room (3968 + k)) b = record {
               stands = h .1;
@@ -74,7 +77,8 @@ module _ (f : Files) (room : List ℕ) (x : Spot) (own v predicate k : ℕ) (mar
               few = omega arith;
               ok = head-ok b closed d 0 z (N .booked .scoped k d m);
             } in
-            let says = subst (λ (s : Spot). ByHead f room x s own v after) j (A .told t) us a b (file-small (N .booked)) (N .booked .candidates) (N .keys .candidates) (N .atom) Y i es G in
+            let W = subst (λ (bs : Bindings). ArgumentsAre us 0 bs noVariable b kept) (sym (no-frame room)) (subst (Says us b) (sym n) (N .arguments k d m b z)) in
+            let says = subst (λ (s : Spot). ByFact f room x s own v asked kept after) j (A .told t) us a b (file-small (N .booked)) (N .booked .candidates) (N .keys .candidates) (N .atom) Y Q W i es G in
             one-head us (replacedAtom us es a) b (one-fact us (replacedAtom us es a) b (bindingsAt room (ruleSpot room (3968 + k))) closed says) d z []
 
 -- supposed clause j
@@ -112,19 +116,19 @@ module _ (f : Files) (room : List ℕ) (x : Spot) (own v j : ℕ) (marks : List 
   }
 
 -- clause k at hand, which is a rule or one of those that are supposed
-module _ (f : Files) (room : List ℕ) (x : Spot) (own v predicate : ℕ) {marks after : List ℕ} {n k i : ℕ} {r : Bool} (e : n ≡ getD room 0 0) where
-  pub clause-rule : k < n → i ≡ k → Adds marks after r (ByRule f room x own v predicate after i) → Adds marks after r (ByClause f room x own v predicate after k)
+module _ (f : Files) (room : List ℕ) (x : Spot) (own v predicate asked : ℕ) {marks after : List ℕ} {n k i : ℕ} {r : Bool} (e : n ≡ getD room 0 0) where
+  pub clause-rule : k < n → i ≡ k → Adds marks after r (ByRule f room x own v predicate asked after i) → Adds marks after r (ByClause f room x own v predicate asked after k)
   clause-rule l q A = record {
     more = A .more;
-    told = λ t P ds us a N supposed top c T h m j es G.
+    told = λ t P ds us a N Q supposed top c T h m j es G.
         let (z, g) = T .rule k h (omega (arith, l, e, N .booked .rules .counted)) m in
-        subst (λ (bs : Bindings). NoHead us bs (h .clause) (replacedAtom us es a)) (sym z) (A .told t P ds us a N (h .clause) (subst (λ (y : ℕ). getElem? ds y ≡ some (h .clause)) (sym q) g) j es G);
+        subst (λ (bs : Bindings). NoHead us bs (h .clause) (replacedAtom us es a)) (sym z) (A .told t P ds us a N Q (h .clause) (subst (λ (y : ℕ). getElem? ds y ≡ some (h .clause)) (sym q) g) j es G);
   }
 
-  pub clause-supposed : n ≤ k → i ≡ k - n → Adds marks after r (ByOne f room x own v after i) → Adds marks after r (ByClause f room x own v predicate after k)
+  pub clause-supposed : n ≤ k → i ≡ k - n → Adds marks after r (ByOne f room x own v after i) → Adds marks after r (ByClause f room x own v predicate asked after k)
   clause-supposed l q A = record {
     more = A .more;
-    told = λ t P ds us a N supposed top c T h m j es G.
+    told = λ t P ds us a N Q supposed top c T h m j es G.
         let same : k ≡ length ds + i = omega (arith, l, q, e, N .booked .rules .counted) in
         A .told t ds us a N supposed top c T h (subst (λ (y : ℕ). getElem? c y ≡ some h) same m) j es G;
   }

@@ -19,7 +19,9 @@ use Rattle.room.specs.declared.Spot.{Spot}
 use Rattle.mentions.specs.Open.{Becomes}
 use Rattle.keys.specs.Keys.{KeysIn, CandidateKeys, PredicateKeyAt}
 use Rattle.unset.specs.Unset.{Small}
+use Rattle.arguments.specs.Arguments.{ArgumentsAre}
 use Rattle.narrow.specs.Heads.{inRules, HeadsIn}
+use Rattle.narrow.specs.Kept.{noVariable, ArgumentsIn}
 
 -- no head of a clause becomes an atom, whatever the variables are replaced by that the clause itself quantifies
 abbrev pub NoHead : List Term → Bindings → Clause Plain → Atom → Type 0
@@ -50,6 +52,7 @@ pub record Known (f : Files) (room : List ℕ) (ds : List (Clause Plain)) (us : 
   pub booked : Booked f room ds us
   pub keys : KeysIn room ds us
   pub heads : HeadsIn room (f .rules) ds
+  pub arguments : ArgumentsIn room ds us
   pub atom : AtomAt (f .rules) (f .goal) (f .terms) x a
 
 -- no mark is taken back
@@ -68,11 +71,18 @@ ByHead f room x y own v marks =
     (us : List Term) (a b : Atom) → Small f → CandidatesIn room (f .terms) us → CandidateKeys room us → AtomAt (f .rules) (f .goal) (f .terms) x a → AtomAt (f .rules) (f .goal) (f .terms) y b
     → (i : ℕ) (es : Bindings) → Gives room us x own v marks i es → sameAtom (replacedAtom us (bindingsAt room y) b) (replacedAtom us es a) ≡ false
 
--- by rule k, where the number is that of the atom's predicate
-abbrev pub ByRule : Files → List ℕ → Spot → ℕ → ℕ → ℕ → List ℕ → ℕ → Type 0
-ByRule f room x own v predicate marks k =
+-- by one head, and by the words of the atom's arguments and of the head's
+abbrev pub ByFact : Files → List ℕ → Spot → Spot → ℕ → ℕ → ℕ → ℕ → List ℕ → Type 0
+ByFact f room x y own v asked kept marks =
+    (us : List Term) (a b : Atom) → Small f → CandidatesIn room (f .terms) us → CandidateKeys room us → AtomAt (f .rules) (f .goal) (f .terms) x a → AtomAt (f .rules) (f .goal) (f .terms) y b
+    → ArgumentsAre us own (bindingsAt room x) v a asked → ArgumentsAre us 0 (bindingsAt room y) noVariable b kept
+    → (i : ℕ) (es : Bindings) → Gives room us x own v marks i es → sameAtom (replacedAtom us (bindingsAt room y) b) (replacedAtom us es a) ≡ false
+
+-- by rule k, where the number is that of the atom's predicate, and the word that of its arguments
+abbrev pub ByRule : Files → List ℕ → Spot → ℕ → ℕ → ℕ → ℕ → List ℕ → ℕ → Type 0
+ByRule f room x own v predicate asked marks k =
     PredicateKeyAt f x predicate
-    → (ds : List (Clause Plain)) (us : List Term) (a : Atom) → Known f room ds us x a → (d : Clause Plain) → getElem? ds k ≡ some d → CannotServe room us x own v marks a [] d
+    → (ds : List (Clause Plain)) (us : List Term) (a : Atom) → Known f room ds us x a → ArgumentsAre us own (bindingsAt room x) v a asked → (d : Clause Plain) → getElem? ds k ≡ some d → CannotServe room us x own v marks a [] d
 
 -- by supposed clause j
 abbrev pub ByOne : Files → List ℕ → Spot → ℕ → ℕ → List ℕ → ℕ → Type 0
@@ -81,10 +91,10 @@ ByOne f room x own v marks j =
     → (h : AtHand Plain) → getElem? c (length ds + j) ≡ some h → CannotServe room us x own v marks a (h .bindings) (h .clause)
 
 -- by clause k at hand, whichever it is
-abbrev pub ByClause : Files → List ℕ → Spot → ℕ → ℕ → ℕ → List ℕ → ℕ → Type 0
-ByClause f room x own v predicate marks k =
+abbrev pub ByClause : Files → List ℕ → Spot → ℕ → ℕ → ℕ → ℕ → List ℕ → ℕ → Type 0
+ByClause f room x own v predicate asked marks k =
     PredicateKeyAt f x predicate
-    → (ds : List (Clause Plain)) (us : List Term) (a : Atom) → Known f room ds us x a → (supposed top : ℕ) (c : Hand Plain) → HandIn f room ds supposed top c
+    → (ds : List (Clause Plain)) (us : List Term) (a : Atom) → Known f room ds us x a → ArgumentsAre us own (bindingsAt room x) v a asked → (supposed top : ℕ) (c : Hand Plain) → HandIn f room ds supposed top c
     → (h : AtHand Plain) → getElem? c k ≡ some h → CannotServe room us x own v marks a (h .bindings) (h .clause)
 
 -- the spot in the rule file, in no frame, at the offset that a word of the room keeps

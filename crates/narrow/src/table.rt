@@ -17,7 +17,7 @@ pub(crate) fn word(room: &[u32], i: usize) -> u32
 }
 
 // A word written, if there is room.
-fn put(room: &mut [u32], i: usize, w: u32)
+pub(crate) fn put(room: &mut [u32], i: usize, w: u32)
     ensures { λ r. ⌜ now (room .exit) ≡ set (now (room .entry)) i w ⌝ }
 {
     if i < room.len() {

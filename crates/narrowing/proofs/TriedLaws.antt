@@ -28,10 +28,12 @@ use Rattle.room.specs.Where.{Files, plus, within}
 use Rattle.room.specs.declared.Where.{Where}
 use Rattle.equal.proofs.AtomLaws.{atom-at}
 use Rattle.room.proofs.FrameLaws.{bound-means}
+use Rattle.room.proofs.WhereLaws.{file-small}
 use Rattle.mentions.specs.Open.{isOpen, Becomes}
 use Rattle.heads.specs.Heads.{goalWord}
 use Rattle.heads.proofs.HeadLaws.{goal-says, goal-is, heads, first-part, second-found}
 use Rattle.keys.specs.Keys.{PredicateKeyAt}
+use Rattle.arguments.specs.Arguments.{ArgumentsAre, ArgumentsAt}
 use Rattle.narrow.specs.Narrow.{Gives, Known, More, Adds, ByClause}
 use Rattle.narrow.proofs.MarkLaws.{left-more}
 use Rattle.proving.specs.Provable.{provable}
@@ -119,11 +121,17 @@ module _ {f : Files} {room : List ℕ} {w : Where} {own v left : ℕ} where
   pub atom-start : {marks : List ℕ} → AtomLeft f room w own v left marks room 0
   atom-start ds us o c bs a rd = (keeps-same room, λ j h l. absurd (omega arith))
 
-  pub atom-next : {marks more now after : List ℕ} {predicate : ℕ} {r : Bool} (k : ℕ) → AtomLeft f room w own v left marks now k → length now ≡ length room → PredicateKeyAt f (w .goal) predicate → NarrowsKnown f now after w own v predicate k left more r → r ≡ true → More marks more
+  -- the word of its arguments, which holds whatever of the room changes
+  asked-of : {asked : ℕ} → ArgumentsAt f room (w .goal) own v asked → {ds : List (Clause Plain)} (us : List Term) {o : List Plain} {c : Hand Plain} (bs : Bindings) (a : Atom) → Ready f room ds us w (suc left) o c bs (Goal.atom a) → ArgumentsAre us own bs v a asked
+  asked-of {asked} Q us bs a rd =
+      subst (λ (x : Bindings). ArgumentsAre us own x v a asked) (rd .place .framed .holds)
+      (Q us a (file-small (rd .place .booked)) (rd .place .booked .candidates) (rd .stock .keys .candidates) (atom-at a (rd .place .framed) (rd .place .scoped)))
+
+  pub atom-next : {marks more now after : List ℕ} {predicate asked : ℕ} {r : Bool} (k : ℕ) → AtomLeft f room w own v left marks now k → length now ≡ length room → PredicateKeyAt f (w .goal) predicate → ArgumentsAt f room (w .goal) own v asked → NarrowsKnown f now after w own v predicate asked k left more r → r ≡ true → More marks more
       → AtomLeft f room w own v left more after (k + 1)
-  atom-next {marks} {more} {now} {after} k inv long P call z M ds us o c bs a rd =
+  atom-next {marks} {more} {now} {after} k inv long P Q call z M ds us o c bs a rd =
       let (kept, before) = inv ds us o c bs a rd in
-      let n = call P ds us o c bs a (ready-kept kept long rd) in
+      let n = call P ds us o c bs a (ready-kept kept long rd) (asked-of Q us bs a rd) in
       (keeps-then room now after (omega arith) (omega arith) kept (n .kept), λ j h l m. go j h l m before (n .told z) (ltb j k) refl)
     where
       go : (j : ℕ) (h : AtHand Plain) → j < k + 1 → getElem? c j ≡ some h → ((j : ℕ) (h : AtHand Plain) → j < k → getElem? c j ≡ some h → ServesNot us left o c own v marks bs a h)
@@ -134,13 +142,14 @@ module _ {f : Files} {room : List ℕ} {w : Where} {own v left : ℕ} where
           here h (subst (λ (y : ℕ). getElem? c y ≡ some h) same m)
 
   -- nothing is said of one
-  pub atom-stops : {marks more now after : List ℕ} {predicate : ℕ} {r : Bool} (k : ℕ) → AtomLeft f room w own v left marks now k → length now ≡ length room → PredicateKeyAt f (w .goal) predicate → NarrowsKnown f now after w own v predicate k left more r → NarrowsAs W.Atom f room after w own v left more false
-  atom-stops {more = more} {now = now} {after = after} k inv long P call ds us o c bs g h =
+  pub atom-stops : {marks more now after : List ℕ} {predicate asked : ℕ} {r : Bool} (k : ℕ) → AtomLeft f room w own v left marks now k → length now ≡ length room → PredicateKeyAt f (w .goal) predicate → ArgumentsAt f room (w .goal) own v asked → NarrowsKnown f now after w own v predicate asked k left more r
+      → NarrowsAs W.Atom f room after w own v left more false
+  atom-stops {more = more} {now = now} {after = after} k inv long P Q call ds us o c bs g h =
       let (a, m) = goal-is g h in
       subst (λ (t : Goal Plain). Ready f room ds us w (suc left) o c bs t → Narrows (Stock f ds us (w .supposed) c) (w .supposed) (w .top) room after false (Lacks us (suc left) o c own v more bs t)) (sym m)
       (λ rd.
       let (kept, before) = inv ds us o c bs a rd in
-      record { kept = keeps-then room now after (omega arith) (omega arith) kept (call P ds us o c bs a (ready-kept kept long rd) .kept); told = λ e. absurd (false≢true e) })
+      record { kept = keeps-then room now after (omega arith) (omega arith) kept (call P ds us o c bs a (ready-kept kept long rd) (asked-of Q us bs a rd) .kept); told = λ e. absurd (false≢true e) })
 
   -- or none of all serves
   pub atom-done : {marks now : List ℕ} (k n : ℕ) → n ≤ k → n ≡ plus (getD room rulesWord 0) (w .supposed) → AtomLeft f room w own v left marks now k → NarrowsAs W.Atom f room now w own v left marks true
@@ -153,14 +162,14 @@ module _ {f : Files} {room : List ℕ} {w : Where} {own v left : ℕ} where
       record { kept = kept; told = λ e i es G. none-serves us left o c es a (λ j d y. before j d (omega (arith, all, member-below c j d y)) y i es G) })
 
   -- one clause, by its heads or by its body
-  pub clause-heads : {marks after : List ℕ} {predicate k : ℕ} {r : Bool} → Adds marks after r (ByClause f room (w .goal) own v predicate after k) → r ≡ true → NarrowsKnown f room room w own v predicate k left after true
-  clause-heads {after = after} A z P ds us o c bs a rd =
-      let known : Known f room ds us (w .goal) a = record { booked = rd .place .booked; keys = rd .stock .keys; heads = rd .stock .heads; atom = atom-at a (rd .place .framed) (rd .place .scoped) } in
+  pub clause-heads : {marks after : List ℕ} {predicate asked k : ℕ} {r : Bool} → Adds marks after r (ByClause f room (w .goal) own v predicate asked after k) → r ≡ true → NarrowsKnown f room room w own v predicate asked k left after true
+  clause-heads {after = after} {asked = asked} A z P ds us o c bs a rd Q =
+      let known : Known f room ds us (w .goal) a = record { booked = rd .place .booked; keys = rd .stock .keys; heads = rd .stock .heads; arguments = rd .stock .arguments; atom = atom-at a (rd .place .framed) (rd .place .scoped) } in
       record {
         kept = keeps-same room;
         told = λ e h m i es G.
             let gives : Gives room us (w .goal) own v after i es = record { left = G .left; becomes = subst (λ (x : Bindings). Becomes us own x es) (sym (rd .place .framed .holds)) (G .becomes); value = G .value } in
-            no-head-passes-not (listed us) o (replacedAtom us es a) (λ g ds. provable (listed us) left o c ds g) (h .clause) (h .bindings) (A .told z P ds us a known (w .supposed) (w .top) c (rd .place .hand) h m i es gives);
+            no-head-passes-not (listed us) o (replacedAtom us es a) (λ g ds. provable (listed us) left o c ds g) (h .clause) (h .bindings) (A .told z P ds us a known (subst (λ (x : Bindings). ArgumentsAre us own x v a asked) (sym (rd .place .framed .holds)) Q) (w .supposed) (w .top) c (rd .place .hand) h m i es gives);
       }
 
 -- a frame with a candidate for an open variable, completed: what was set is as it was, and the variable stands for the candidate

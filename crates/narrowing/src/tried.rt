@@ -1,5 +1,6 @@
 // Which candidates a variable need be tried with, by the atoms of a clause's body (document 02, Three: no verdict and no strip changes). A head without variables lets the candidate pass that it forces on the variable.
 // Where the head of a clause has a variable of its own there, those pass that the clause's body leaves this variable, which are looked for in the same way, with what is left of the height, in at most 32 bodies for one atom.
+use arguments::arguments_of;
 use held::holds;
 use keys::predicate_key;
 use narrow::by_clause;
@@ -136,6 +137,7 @@ fn narrow_atom<'a>(
         return false;
     }
     let predicate = predicate_key(rules, goal, terms, w.goal);
+    let asked = arguments_of(rules, goal, terms, room, w.goal, own, v);
     let n = clauses(room, w.supposed);
     let mut k = 0;
     while k < n {
@@ -148,6 +150,7 @@ fn narrow_atom<'a>(
             own,
             v,
             predicate,
+            asked,
             k,
             left,
             marks,
@@ -169,11 +172,12 @@ fn narrow_clause<'a>(
     own: usize,
     v: usize,
     predicate: u32,
+    asked: u32,
     k: usize,
     left: usize,
     marks: &mut [u8],
 ) -> bool
-    ensures { λ r. ⌜ More (now (marks .entry)) (now (marks .exit)) × NarrowsKnown (filesOf (now (rules .entry)) (now (goal .entry)) (now (terms .entry))) (now (room .entry)) (now (room .exit)) w own v predicate k left (now (marks .exit)) r ⌝ }
+    ensures { λ r. ⌜ More (now (marks .entry)) (now (marks .exit)) × NarrowsKnown (filesOf (now (rules .entry)) (now (goal .entry)) (now (terms .entry))) (now (room .entry)) (now (room .exit)) w own v predicate asked k left (now (marks .exit)) r ⌝ }
 {
     if by_clause(
         rules,
@@ -184,6 +188,7 @@ fn narrow_clause<'a>(
         own,
         v,
         predicate,
+        asked,
         k,
         marks,
     ) {

@@ -2,6 +2,7 @@
 // when the whole answer is known (document 01, "Which strip the search writes", "What comes back").
 use drawing::Drawn;
 use keys::fill_keys;
+use narrow::fill_arguments;
 use narrow::fill_heads;
 use packet::File;
 use packet::Reason;
@@ -21,13 +22,14 @@ ghost use Rattle.packet.specs.declared.File.the-variants as F;
 ghost use Rattle.proposal.specs.Proposed.{Comes, proposal};
 ghost use Rattle.propose.specs.Parts.{Setting, Telling, Measuring, Filling, Searching, Answering};
 
-// The room as a search needs it: the tables of rules and candidates, their numbers, the heads of rules, and an empty table of atoms.
-fn set_out(rules: &[u8], terms: &[u8], room: &mut [u32])
+// The room as a search needs it: the tables of rules and candidates, their numbers, the heads of rules and their arguments, and an empty table of atoms.
+fn set_out<'a>(rules: &'a [u8], terms: &'a [u8], room: &mut [u32])
     ensures { λ _. ⌜ Setting (now (rules .entry)) (now (terms .entry)) (now (room .entry)) (now (room .exit)) ⌝ }
 {
     fill_tables(rules, terms, room);
     fill_keys(rules, terms, room);
     fill_heads(rules, room);
+    fill_arguments(rules, terms, room);
     empty_all(room);
 }
 

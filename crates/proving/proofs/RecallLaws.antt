@@ -19,7 +19,7 @@ use Rattle.proving.specs.Provable as provable
 use Rattle.proving.specs.Stock.{truth, Stock, Keeps}
 use Rattle.proving.specs.Proving.{Ready}
 use Rattle.proving.proofs.TruthLaws.{truth-here, truth-rises}
-use Rattle.proving.proofs.StockLaws.{kept-below, keys-below, heads-below}
+use Rattle.proving.proofs.StockLaws.{kept-below, keys-below, heads-below, arguments-below}
 
 module _ {f : Files} {room : List ℕ} {ds : List (Clause Plain)} {us : List Term} {w : Where} {left : ℕ} {o : List Plain} {c : Hand Plain} {bs : Bindings} {a : Atom} (r : Ready f room ds us w (suc left) o c bs (Goal.atom a)) where
   -- the table speaks of atoms whose variables are replaced
@@ -45,6 +45,7 @@ module _ {f : Files} {room : List ℕ} {ds : List (Clause Plain)} {us : List Ter
             record {
               keys = keys-below (r .place .booked .rules .few) (r .place .booked .candidates .few) t (s .keys);
               heads = heads-below (f .rules) ds (r .place .booked .rules .few) t (s .heads);
+              arguments = arguments-below ds us (r .place .booked .rules .few) t (s .arguments);
               good = h us (truth us (length ds) c) (w .supposed) a z (omega arith) (s .good) (r .place .booked .candidates) (atom-at a (r .place .framed) (r .place .scoped)) (spoken height e ∙ q);
             };
       }

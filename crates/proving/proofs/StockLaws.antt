@@ -19,6 +19,8 @@ use Rattle.keys.specs.Chains.{linkWord, firstWord, chainsEnd}
 use Rattle.keys.specs.Keys.{keyWord, keysEnd, KeysIn}
 use Rattle.keys.proofs.ChainLaws.{chained-kept}
 use Rattle.narrow.specs.Heads.{predicateWord, headWord, HeadsIn}
+use Rattle.narrow.specs.Kept.{argumentsWord, ArgumentsIn}
+use Rattle.narrow.proofs.KeptLaws.{arguments-kept}
 use Rattle.narrow.proofs.FillLaws.{heads-kept}
 use Rattle.table.specs.Slots.{tableWord}
 use Rattle.table.specs.Recall.{TableOnly, Forgets}
@@ -49,6 +51,7 @@ module _ {f : Files} {ds : List (Clause Plain)} {us : List Term} {m : ℕ} {c : 
               chains = chained-kept (λ j l. k (keyWord j) (omega arith)) (λ j l. k (linkWord j) (omega arith)) (λ b l. k (firstWord b) (omega arith)) (s .keys .chains);
             };
         heads = heads-kept (f .rules) after room ds (λ j l. (k (predicateWord j) (omega arith), k (headWord j) (omega arith))) (s .heads);
+        arguments = arguments-kept after room ds us (λ j l. k (argumentsWord j) (omega arith)) (s .arguments);
         good = good-kept (s .good) e (λ i l. k i (omega arith));
       }
 
@@ -78,6 +81,9 @@ keys-below l l′ t k = keys-kept l l′ (λ i h. t .below i (omega arith)) (λ 
 pub heads-below : (rules : List ℕ) (ds : List (Clause Plain)) {room after : List ℕ} → length ds ≤ rulesAtMost → TableOnly room after → HeadsIn room rules ds → HeadsIn after rules ds
 heads-below rules ds {room} {after} l t h = heads-kept rules after room ds (λ j m. (t .below (predicateWord j) (omega arith), t .below (headWord j) (omega arith))) h
 
+pub arguments-below : (ds : List (Clause Plain)) (us : List Term) {room after : List ℕ} → length ds ≤ rulesAtMost → TableOnly room after → ArgumentsIn room ds us → ArgumentsIn after ds us
+arguments-below ds us {room} {after} l t h = arguments-kept after room ds us (λ j m. t .below (argumentsWord j) (omega arith)) h
+
 module _ {f : Files} {ds : List (Clause Plain)} {us : List Term} {m : ℕ} {c : Hand Plain} where
   -- a clause that is supposed lies below the stack
   pub stock-supposing : {room : List ℕ} (x : Spot) → m < supposedAtMost → Stock f ds us m c room → Stock f ds us m c (supposing room m x)
@@ -94,6 +100,7 @@ module _ {f : Files} {ds : List (Clause Plain)} {us : List Term} {m : ℕ} {c : 
       (record {
         keys = keys-below (b .rules .few) (b .candidates .few) t (z .keys);
         heads = heads-below (f .rules) ds (b .rules .few) t (z .heads);
+        arguments = arguments-below ds us (b .rules .few) t (z .arguments);
         good = g f us (truth us (length ds) c) (truth us (length ds) (c ++ xs)) m e (truth-before us (length ds) m c xs (omega arith)) (z .good);
       })
 
@@ -103,5 +110,6 @@ module _ {f : Files} {ds : List (Clause Plain)} {us : List Term} {m : ℕ} {c : 
       record {
         keys = s .keys;
         heads = s .heads;
+        arguments = s .arguments;
         good = good-truth (λ i p h a q. sym (truth-before us (length ds) m c xs n i p h a q)) (good-fewer l (s .good));
       }

@@ -1,4 +1,4 @@
--- What the search keeps in the room beside its stack (document 02, Three): the numbers of rules and candidates (crate keys), the heads of rules (crate narrow) and the table of atoms (crate table). Nothing of document 01 is in it: what the table says is said by `provable`, and no answer depends on what it holds.
+-- What the search keeps in the room beside its stack (document 02, Three): the numbers of rules and candidates (crate keys), the heads of rules and their arguments (crate narrow) and the table of atoms (crate table). Nothing of document 01 is in it: what the table says is said by `provable`, and no answer depends on what it holds.
 use Prim.Native.Nat.{ℕ, zero, suc, _+_}
 use mathlib.Core.Bool.{Bool, false}
 use mathlib.Core.List.{List, [], _∷_}
@@ -8,6 +8,7 @@ use Rattle.harrop.specs.Place.{Hand, Plain, listed}
 use Rattle.room.specs.Where.{Files, Kept}
 use Rattle.keys.specs.Keys.{KeysIn}
 use Rattle.narrow.specs.Heads.{HeadsIn}
+use Rattle.narrow.specs.Kept.{ArgumentsIn}
 use Rattle.table.specs.Good.{Truth, Good}
 use Rattle.proving.specs.Provable as provable
 
@@ -25,6 +26,7 @@ truth us n c s p (suc h) a = provable.clausesFrom (listed us) (units p) (take (n
 pub record Stock (f : Files) (ds : List (Clause Plain)) (us : List Term) (m : ℕ) (c : Hand Plain) (room : List ℕ) : Type 0 where
   pub keys : KeysIn room ds us
   pub heads : HeadsIn room (f .rules) ds
+  pub arguments : ArgumentsIn room ds us
   pub good : Good f us (truth us (length ds) c) m room
 
 -- the words that a place relies on are as they were, and what is to be right is right still

@@ -49,7 +49,7 @@ use Rattle.unset.specs.declared.Forced.the-variants as F
 use Rattle.held.specs.Held.{Holding}
 use Rattle.unset.specs.Unset.{Small, MayBe, ForcedAs, Forces}
 use Rattle.unset.specs.Beside.{IsVariable, VariableIs, SameIs}
-use Rattle.unset.specs.Head.{DiffersAt, NoneOf, CandidateOf, CandidateAt, isVariable, VariableAt}
+use Rattle.unset.specs.Head.{DiffersAt, NoneOf, CandidateOf, CandidateAt, isVariable, VariableAt, Row}
 
 neither : (a b : Bool) → a || b ≡ false → (a ≡ false) × (b ≡ false)
 neither true b e = absurd (false≢true (sym e))
@@ -70,7 +70,7 @@ module _ (us : List Term) (p : ℕ → Bool) (bs ds : Bindings) (h : (i : ℕ) �
         ap (λ (z : Term). Terms.cons z (replaceds us ds ts)) (term-settled t a) ∙ ap (Terms.cons (replaced us bs t)) (terms-settled ts b)
 
 -- so a term that holds no unset variable is the same whatever the frame becomes
-settled : (us : List Term) (own : ℕ) (bs ds : Bindings) → Becomes us own bs ds → (t : Term) → mentionsTerm (insides 0 (asked own bs false 0)) t ≡ false → replaced us ds t ≡ replaced us bs t
+pub settled : (us : List Term) (own : ℕ) (bs ds : Bindings) → Becomes us own bs ds → (t : Term) → mentionsTerm (insides 0 (asked own bs false 0)) t ≡ false → replaced us ds t ≡ replaced us bs t
 unfolding asked
 settled us own bs ds B t e = term-settled us (insides 0 (asked own bs false 0)) bs ds (λ i q. B i (neither (isOpen own bs i) false q .0)) t e
 
@@ -103,7 +103,7 @@ forced-as us bs b a v w h F.Never o = λ ds n t m e.
     never (sameAtom (replacedAtom us ds b) (replacedAtom us bs a)) (λ z. o n (member-below us n t m) (m ∙ ap some (sym e ∙ h ds z)))
 
 -- a part of a file
-part-small : {s : List ℕ} (file : List ℕ) (at : ℕ) → s ≡ drop at file → length file ≤ mostBytes → length s ≤ mostBytes
+pub part-small : {s : List ℕ} (file : List ℕ) (at : ℕ) → s ≡ drop at file → length file ≤ mostBytes → length s ≤ mostBytes
 part-small file at e l = omega (arith, ap length e ∙ length-drop at file)
 
 from-part : {s file : List ℕ} (at i : ℕ) {e : Sexp} → s ≡ drop at file → Stands s i e → Stands file (at + i) e
@@ -171,13 +171,6 @@ module _ (f : Files) (room : List ℕ) (x y : Spot) (own : ℕ) where
       ap (λ (w : Term). sameTerm w (replaced us (bindingsAt room y) u)) (settled us own (bindingsAt room x) ds B t none)
       ∙ sym (M us t u C T U (omega (arith, n, T .shallow))) ∙ d
 
--- a row of arguments at an offset of a part, up to the closing parenthesis
-pub record Row (around : ℕ) (s : List ℕ) (p : ℕ) (ts : Terms) : Type 0 where
-  pub stands : StandsAll s p (termSexps ts)
-  pub shallow : nestings (termSexps ts) ≤ levels
-  pub few : around ≤ levels
-  pub ok : termsOk false around ts ≡ true
-
 -- what is left of the arguments of a head b and an atom a, at the offsets p and q: frames that make the head the atom make them the same
 pub record Left (x y : Spot) (s t : List ℕ) (us : List Term) (b a : Atom) (p q : ℕ) : Type 0 where
   pub one : Terms
@@ -208,7 +201,7 @@ module _ {f : Files} {x : Spot} {s : List ℕ} (n : Name) (ts : Terms) (X : Atom
   atom-here : Stands s 0 (atomSexp (Atom.atom n ts))
   atom-here = subst (λ (l : List ℕ). Stands l 0 (atomSexp (Atom.atom n ts))) (sym e) (part-stands (X .stands))
 
-  row-after : (p : ℕ) → p ≡ 7 + length (spell (str n)) → Row (x .count) s p ts
+  pub row-after : (p : ℕ) → p ≡ 7 + length (spell (str n)) → Row (x .count) s p ts
   row-after p z = record {
     stands = subst (λ (j : ℕ). StandsAll s j (termSexps ts)) (sym z) (atom-rest n ts atom-here);
     shallow = omega (arith, X .shallow);
@@ -216,11 +209,11 @@ module _ {f : Files} {x : Spot} {s : List ℕ} (n : Name) (ts : Terms) (X : Atom
     ok = X .ok;
   }
 
-  name-past : {a : After} {i : ℕ} → PastAt s 7 0 a → a ≡ A.Next i → i ≡ 7 + length (spell (str n))
+  pub name-past : {a : After} {i : ℕ} → PastAt s 7 0 a → a ≡ A.Next i → i ≡ 7 + length (spell (str n))
   name-past a z = let E = past-next z a in E .ends ∙ ap (λ (y : Sexp). 7 + length (spell y)) (stands-once (E .stands) (atom-text n ts atom-here))
 
 -- a term at an offset of a part stands at a spot
-term-there : (f : Files) (x : Spot) {s : List ℕ} {p : ℕ} {z : Spot} (t : Term) (ts : Terms) → Small f → s ≡ drop (x .at) (bytesAt f x) → z ≡ further x p → Row (x .count) s p (Terms.cons t ts) → TermAt (f .rules) (f .goal) (f .terms) z t
+pub term-there : (f : Files) (x : Spot) {s : List ℕ} {p : ℕ} {z : Spot} (t : Term) (ts : Terms) → Small f → s ≡ drop (x .at) (bytesAt f x) → z ≡ further x p → Row (x .count) s p (Terms.cons t ts) → TermAt (f .rules) (f .goal) (f .terms) z t
 term-there f x {p = p} t ts S e q R =
     let st = from-part (x .at) p e (first-stands (R .stands)) in
     subst (λ (v : Spot). TermAt (f .rules) (f .goal) (f .terms) v t) (sym q) (record {
@@ -232,7 +225,7 @@ term-there f x {p = p} t ts S e q R =
     })
 
 -- the others of a row
-row-next : {around : ℕ} {s : List ℕ} {p m : ℕ} {a : After} (t : Term) (ts : Terms) → a ≡ A.Next m → PastAt s p 64 a → Row around s p (Terms.cons t ts) → Row around s m ts
+pub row-next : {around : ℕ} {s : List ℕ} {p m : ℕ} {a : After} (t : Term) (ts : Terms) → a ≡ A.Next m → PastAt s p 64 a → Row around s p (Terms.cons t ts) → Row around s m ts
 row-next {around} {s} {p} t ts z a R =
     let E = past-next z a in
     let end = E .ends ∙ ap (λ (y : Sexp). p + length (spell y)) (stands-once (E .stands) (first-stands (R .stands))) in
@@ -244,10 +237,10 @@ row-next {around} {s} {p} t ts z a R =
     }
 
 -- where a row closes
-shut : (l : List ℕ) (k : ℕ) {r : Bool} → r ≡ eqb (getD l k 0) 41 → r ≡ true → getD l k 0 ≡ 41
+pub shut : (l : List ℕ) (k : ℕ) {r : Bool} → r ≡ eqb (getD l k 0) 41 → r ≡ true → getD l k 0 ≡ 41
 shut l k e h = eqb-true (getD l k 0) 41 (sym e ∙ h)
 
-going : (l : List ℕ) (k : ℕ) {r : Bool} → r ≡ eqb (getD l k 0) 41 → r ≡ false → getD l k 0 ≡ 41 → ⊥
+pub going : (l : List ℕ) (k : ℕ) {r : Bool} → r ≡ eqb (getD l k 0) 41 → r ≡ false → getD l k 0 ≡ 41 → ⊥
 going l k e h z = eqb-false (getD l k 0) 41 (sym e ∙ h) z
 
 -- nothing is said

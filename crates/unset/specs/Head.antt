@@ -6,13 +6,13 @@ use mathlib.Core.List.{List}
 use mathlib.Core.Option.{some}
 use lib.Dec.{eqb}
 use lib.ListN.{length, getD, getElem?}
-use Rattle.harrop.specs.Formula.{Term}
+use Rattle.harrop.specs.Formula.{Term, Terms}
 use Rattle.harrop.specs.Bindings.{Bindings, replaced, sameTerm}
 use Rattle.sexp.specs.declared.words.Value.{Value}
 use Rattle.sexp.specs.declared.words.Value.the-variants as Val
-use Rattle.sexp.specs.Sexp.{Stands}
-use Rattle.packet.specs.Written.{termSexp}
-use Rattle.packet.specs.Barred.{termOk}
+use Rattle.sexp.specs.Sexp.{Stands, StandsAll, nestings}
+use Rattle.packet.specs.Written.{termSexp, termSexps}
+use Rattle.packet.specs.Barred.{termOk, termsOk}
 use Rattle.packet.specs.File.{mostBytes}
 use Rattle.room.specs.Layout.{levels, candidateWord}
 use Rattle.room.specs.Spot.{bindingsAt}
@@ -95,3 +95,10 @@ isVariable v (Term.e k) = false
 abbrev pub VariableAt : List ℕ → ℕ → ℕ → Bool → Type 0
 VariableAt s at v r =
     (t : Term) (around : ℕ) → Stands s at (termSexp t) → length s ≤ mostBytes → around ≤ levels → termOk false around t ≡ true → r ≡ isVariable v t
+
+-- a row of arguments at an offset of a part, up to the closing parenthesis
+pub record Row (around : ℕ) (s : List ℕ) (p : ℕ) (ts : Terms) : Type 0 where
+  pub stands : StandsAll s p (termSexps ts)
+  pub shallow : nestings (termSexps ts) ≤ levels
+  pub few : around ≤ levels
+  pub ok : termsOk false around ts ≡ true

@@ -219,7 +219,7 @@ pub fn open_at<'a>(
 }
 
 // Whether variable v stands at an offset.
-pub(crate) fn is_variable(s: &[u8], at: usize, v: usize) -> bool
+pub fn is_variable(s: &[u8], at: usize, v: usize) -> bool
     ensures { λ r. ⌜ VariableAt (now (s .entry)) at v r ⌝ }
 {
     if !is_word(s, plus(at, 1), b"v") {

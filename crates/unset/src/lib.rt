@@ -6,6 +6,7 @@ pub use beside::same_as;
 pub use head::candidate_at;
 pub use head::differs;
 pub use head::forced_by;
+pub use head::is_variable;
 pub use head::may_be;
 pub use head::open_at;
 

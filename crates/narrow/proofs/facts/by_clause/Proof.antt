@@ -23,7 +23,7 @@ same-length c = search needs
 
 returns : tie.Need-returns
 returns c = let x = c .before .before .before .before .before .before .before .before .before .before .before .args in
-    clause-rule (filesOf (x .rules .now) (x .goal .now) (x .terms .now)) (x .room .now) (x .x) (x .own) (x .v) (x .predicate) {i = x .k} (c .before .before .before .before .before .word .ensures) (c .before .before .before .before .if1 .taken) refl (c .before .before .by-rule .ensures)
+    clause-rule (filesOf (x .rules .now) (x .goal .now) (x .terms .now)) (x .room .now) (x .x) (x .own) (x .v) (x .predicate) (x .asked) {i = x .k} (c .before .before .before .before .before .word .ensures) (c .before .before .before .before .if1 .taken) refl (c .before .before .by-rule .ensures)
 
 by-one-requires : tie.Need-by-one-requires
 by-one-requires c κs = search needs
@@ -33,7 +33,7 @@ same-length-2 c = search needs
 
 returns-2 : tie.Need-returns-2
 returns-2 c = let x = c .before .before .before .before .before .before .before .before .before .before .before .args in
-    clause-supposed (filesOf (x .rules .now) (x .goal .now) (x .terms .now)) (x .room .now) (x .x) (x .own) (x .v) (x .predicate) (c .before .before .before .before .before .word .ensures) (c .before .before .before .before .if1 .left) refl (c .before .before .by-one .ensures)
+    clause-supposed (filesOf (x .rules .now) (x .goal .now) (x .terms .now)) (x .room .now) (x .x) (x .own) (x .v) (x .predicate) (x .asked) (c .before .before .before .before .before .word .ensures) (c .before .before .before .before .if1 .left) refl (c .before .before .by-one .ensures)
 
 pub by-clause-spec : {M : Type 1} → statement M
 by-clause-spec =

@@ -24,12 +24,12 @@ has-head-requires c κs = search needs
 returns : tie.Need-returns
 returns c = let x = c .before .before .before .before .before .before .before .before .before .args in
     let f = filesOf (x .rules .now) (x .goal .now) (x .terms .now) in
-    rule-headless f (x .room .now) (x .x) (x .own) (x .v) (x .predicate) (x .k) (x .marks .now) (c .has-head .result) (c .before .rule-spot .ensures) (c .has-head .ensures)
+    rule-headless f (x .room .now) (x .x) (x .own) (x .v) (x .predicate) (x .asked) (x .k) (x .marks .now) (c .has-head .result) (c .before .rule-spot .ensures) (c .has-head .ensures)
 
 returns-2 : tie.Need-returns-2
 returns-2 c = let x = c .before .before .before .before .before .before .before .before .args in
     let f = filesOf (x .rules .now) (x .goal .now) (x .terms .now) in
-    rule-other f (x .room .now) (x .x) (x .own) (x .v) (x .predicate) (x .k) (x .marks .now) (c .before .before .word .ensures) (c .before .if1 .left) (c .if2 .taken)
+    rule-other f (x .room .now) (x .x) (x .own) (x .v) (x .predicate) (x .asked) (x .k) (x .marks .now) (c .before .before .word .ensures) (c .before .if1 .left) (c .if2 .taken)
 
 add-word-2 : tie.Need-add-word-2
 add-word-2 c = search needs
@@ -46,16 +46,22 @@ add-rule-spot-2 c = search needs
 rule-spot-requires-2 : tie.Need-rule-spot-requires-2
 rule-spot-requires-2 c κs = search needs
 
-by-head-requires : tie.Need-by-head-requires
-by-head-requires c κs = search needs
+add-word-3 : tie.Need-add-word-3
+add-word-3 c = search needs
+
+word-requires-3 : tie.Need-word-requires-3
+word-requires-3 c κs = search needs
+
+by-fact-requires : tie.Need-by-fact-requires
+by-fact-requires c κs = search needs
 
 same-length : tie.Need-same-length
 same-length c = search needs
 
 returns-4 : tie.Need-returns-4
-returns-4 c = let x = c .before .before .before .before .before .before .before .before .before .before .before .before .before .before .before .args in
+returns-4 c = let x = c .before .before .before .before .before .before .before .before .before .before .before .before .before .before .before .before .args in
     let f = filesOf (x .rules .now) (x .goal .now) (x .terms .now) in
-    rule-fact f (x .room .now) (x .x) (x .own) (x .v) (x .predicate) (x .k) (x .marks .now) (c .before .before .before .before .before .before .before .before .before .word .ensures) (c .before .before .before .before .before .before .before .before .if1 .left) (c .before .before .by-head .result) (c .before .before .before .before .before .before .word2 .ensures) (c .before .before .before .before .before .if3 .left) (c .before .before .before .before .rule-spot2 .ensures) (c .before .before .by-head .ensures)
+    rule-fact f (x .room .now) (x .x) (x .own) (x .v) (x .predicate) (x .asked) (x .k) (x .marks .now) (c .before .before .before .before .before .before .before .before .before .before .word .ensures) (c .before .before .before .before .before .before .before .before .before .if1 .left) (c .before .before .by-fact .result) (c .before .before .before .before .before .before .before .word2 .ensures) (c .before .before .before .before .before .before .if3 .left) (c .before .before .before .before .before .rule-spot2 .ensures) (c .before .before .before .before .word3 .ensures) (c .before .before .by-fact .ensures)
 
 pub by-rule-spec : {M : Type 1} → statement M
 by-rule-spec =
@@ -73,6 +79,8 @@ by-rule-spec =
     returns-3
     add-rule-spot-2
     rule-spot-requires-2
-    by-head-requires
+    add-word-3
+    word-requires-3
+    by-fact-requires
     same-length
     returns-4)

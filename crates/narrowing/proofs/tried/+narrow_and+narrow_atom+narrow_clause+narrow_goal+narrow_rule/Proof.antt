@@ -28,6 +28,7 @@ use Rattle.narrowing.proofs.tried.+narrow_and+narrow_atom+narrow_clause
 use Rattle.narrowing.proofs.tried.narrow_rule.Reads as narrow-rule
 use Rattle.narrowing.proofs.tried.narrow_rule.Kinds as narrow-rule-kinds
 use Rattle.narrowing.proofs.tried.+narrow_and+narrow_atom+narrow_clause+narrow_goal+narrow_rule.Lts-narrow_rule as narrow-rule-lts
+use Rattle.arguments.proofs.arguments_of.Reads as arguments-of-reads
 use Rattle.keys.proofs.predicate_key.Reads as predicate-key-reads
 use Rattle.narrow.proofs.by_clause.Reads as by-clause-reads
 use Rattle.narrow.proofs.spend.Reads as spend-reads
@@ -56,7 +57,7 @@ abbrev μ-narrow-atom : Measures 3 narrow-atom-kinds.ps ℕ
 μ-narrow-atom κs a = 10 * a .1 .1 .1 .1 .1 .1 .1 .0 + 8
 
 abbrev μ-narrow-clause : Measures 3 narrow-clause-kinds.ps ℕ
-μ-narrow-clause κs a = 10 * a .1 .1 .1 .1 .1 .1 .1 .1 .1 .0 + 7
+μ-narrow-clause κs a = 10 * a .1 .1 .1 .1 .1 .1 .1 .1 .1 .1 .0 + 7
 
 abbrev μ-narrow-goal : Measures 3 narrow-goal-kinds.ps ℕ
 μ-narrow-goal κs a = 10 * a .1 .1 .1 .1 .1 .1 .1 .1 .0 + 5
@@ -154,61 +155,64 @@ narrow-and-returns-3 : (t : ℕ) → narrow-and-lts.Need-returns-3 (past-part-re
 narrow-and-returns-3 t c = (λ e. more-then (c .before .before .before .before .before .before .before .before .before .before .before .before .before .before .before .before .before .narrow-goal .ensures .0 e) (tried.more-from (c .before .before .before .before .before .before .before .before .before .before .again .ensures e) (c .before .before .before .before .narrow-goal2 .ensures .0 e)), tried.and-second (c .before .before .before .before .before .before .before .before .before .before .before .before .before .before .before .before .before .before .before .before .before .before .before .before .before .before .before .before .before .before .args .left) (c .before .before .before .before .before .before .before .before .before .before .before .before .before .before .before .before .before .before .before .before .within .ensures) (c .before .before .before .before .before .before .before .before .before .before .before .before .before .before .before .before .before .narrow-goal .ensures .1) (c .before .before .before .before .before .before .before .before .before .before .before .before .before .before .before .before .before .narrow-goal .kept .1 .1 .1 .0) (c .before .before .before .before .before .before .before .before .before .before .before .before .before .before .before .before .before .before .before .before .before .before .before .before .past-part .ensures) (c .before .before .before .before .before .before .before .before .before .before .before .before .before .before .before .before .before .before .before .before .before .before .n .given .1) (c .before .before .before .before .before .before .before .within2 .ensures) (c .before .before .before .before .narrow-goal2 .ensures .1))
 
 abbrev narrow-atom-Inv-loop : narrow-atom-lts.InvT-loop
-narrow-atom-Inv-loop rules goal terms room₀ w own v left marks₀ predicate n k₀ room marks k = (length room ≡ length room₀) × (More marks₀ marks × tried.AtomLeft (filesOf rules goal terms) room₀ w own v left marks room k)
+narrow-atom-Inv-loop rules goal terms room₀ w own v left marks₀ predicate asked n k₀ room marks k = (length room ≡ length room₀) × (More marks₀ marks × tried.AtomLeft (filesOf rules goal terms) room₀ w own v left marks room k)
 
 abbrev narrow-atom-μ-loop : narrow-atom-lts.MeasureT-loop
-narrow-atom-μ-loop rules goal terms room₀ w own v left marks₀ predicate n k₀ room marks k = n - k
+narrow-atom-μ-loop rules goal terms room₀ w own v left marks₀ predicate asked n k₀ room marks k = n - k
 
-narrow-atom-has-variable-requires : (t : ℕ) → narrow-atom-lts.Need-has-variable-requires (has-variable-reads.Asked, has-variable-reads.Learnt, predicate-key-reads.Asked, predicate-key-reads.Learnt, clauses-reads.Asked, clauses-reads.Learnt, narrow-clause-below t, narrow-clause.Post) (narrow-atom-at t) narrow-atom.Post narrow-atom-Inv-loop narrow-atom-μ-loop
+narrow-atom-has-variable-requires : (t : ℕ) → narrow-atom-lts.Need-has-variable-requires (has-variable-reads.Asked, has-variable-reads.Learnt, predicate-key-reads.Asked, predicate-key-reads.Learnt, arguments-of-reads.Asked, arguments-of-reads.Learnt, clauses-reads.Asked, clauses-reads.Learnt, narrow-clause-below t, narrow-clause.Post) (narrow-atom-at t) narrow-atom.Post narrow-atom-Inv-loop narrow-atom-μ-loop
 narrow-atom-has-variable-requires t c κs = search needs
 
-narrow-atom-same-length : (t : ℕ) → narrow-atom-lts.Need-same-length (has-variable-reads.Asked, has-variable-reads.Learnt, predicate-key-reads.Asked, predicate-key-reads.Learnt, clauses-reads.Asked, clauses-reads.Learnt, narrow-clause-below t, narrow-clause.Post) (narrow-atom-at t) narrow-atom.Post narrow-atom-Inv-loop narrow-atom-μ-loop
+narrow-atom-same-length : (t : ℕ) → narrow-atom-lts.Need-same-length (has-variable-reads.Asked, has-variable-reads.Learnt, predicate-key-reads.Asked, predicate-key-reads.Learnt, arguments-of-reads.Asked, arguments-of-reads.Learnt, clauses-reads.Asked, clauses-reads.Learnt, narrow-clause-below t, narrow-clause.Post) (narrow-atom-at t) narrow-atom.Post narrow-atom-Inv-loop narrow-atom-μ-loop
 narrow-atom-same-length t c = search needs
 
-narrow-atom-returns : (t : ℕ) → narrow-atom-lts.Need-returns (has-variable-reads.Asked, has-variable-reads.Learnt, predicate-key-reads.Asked, predicate-key-reads.Learnt, clauses-reads.Asked, clauses-reads.Learnt, narrow-clause-below t, narrow-clause.Post) (narrow-atom-at t) narrow-atom.Post narrow-atom-Inv-loop narrow-atom-μ-loop
+narrow-atom-returns : (t : ℕ) → narrow-atom-lts.Need-returns (has-variable-reads.Asked, has-variable-reads.Learnt, predicate-key-reads.Asked, predicate-key-reads.Learnt, arguments-of-reads.Asked, arguments-of-reads.Learnt, clauses-reads.Asked, clauses-reads.Learnt, narrow-clause-below t, narrow-clause.Post) (narrow-atom-at t) narrow-atom.Post narrow-atom-Inv-loop narrow-atom-μ-loop
 narrow-atom-returns t c = let x = c .before .before .before .before .before .before .before .before .args in (more-none (x .marks .now), tried.as-nothing W.Atom (x .left))
 
-narrow-atom-predicate-key-requires : (t : ℕ) → narrow-atom-lts.Need-predicate-key-requires (has-variable-reads.Asked, has-variable-reads.Learnt, predicate-key-reads.Asked, predicate-key-reads.Learnt, clauses-reads.Asked, clauses-reads.Learnt, narrow-clause-below t, narrow-clause.Post) (narrow-atom-at t) narrow-atom.Post narrow-atom-Inv-loop narrow-atom-μ-loop
+narrow-atom-predicate-key-requires : (t : ℕ) → narrow-atom-lts.Need-predicate-key-requires (has-variable-reads.Asked, has-variable-reads.Learnt, predicate-key-reads.Asked, predicate-key-reads.Learnt, arguments-of-reads.Asked, arguments-of-reads.Learnt, clauses-reads.Asked, clauses-reads.Learnt, narrow-clause-below t, narrow-clause.Post) (narrow-atom-at t) narrow-atom.Post narrow-atom-Inv-loop narrow-atom-μ-loop
 narrow-atom-predicate-key-requires t c κs = search needs
 
-narrow-atom-clauses-requires : (t : ℕ) → narrow-atom-lts.Need-clauses-requires (has-variable-reads.Asked, has-variable-reads.Learnt, predicate-key-reads.Asked, predicate-key-reads.Learnt, clauses-reads.Asked, clauses-reads.Learnt, narrow-clause-below t, narrow-clause.Post) (narrow-atom-at t) narrow-atom.Post narrow-atom-Inv-loop narrow-atom-μ-loop
+narrow-atom-arguments-of-requires : (t : ℕ) → narrow-atom-lts.Need-arguments-of-requires (has-variable-reads.Asked, has-variable-reads.Learnt, predicate-key-reads.Asked, predicate-key-reads.Learnt, arguments-of-reads.Asked, arguments-of-reads.Learnt, clauses-reads.Asked, clauses-reads.Learnt, narrow-clause-below t, narrow-clause.Post) (narrow-atom-at t) narrow-atom.Post narrow-atom-Inv-loop narrow-atom-μ-loop
+narrow-atom-arguments-of-requires t c κs = search needs
+
+narrow-atom-clauses-requires : (t : ℕ) → narrow-atom-lts.Need-clauses-requires (has-variable-reads.Asked, has-variable-reads.Learnt, predicate-key-reads.Asked, predicate-key-reads.Learnt, arguments-of-reads.Asked, arguments-of-reads.Learnt, clauses-reads.Asked, clauses-reads.Learnt, narrow-clause-below t, narrow-clause.Post) (narrow-atom-at t) narrow-atom.Post narrow-atom-Inv-loop narrow-atom-μ-loop
 narrow-atom-clauses-requires t c κs = search needs
 
-narrow-atom-loop-holds : (t : ℕ) → narrow-atom-lts.Need-loop-holds (has-variable-reads.Asked, has-variable-reads.Learnt, predicate-key-reads.Asked, predicate-key-reads.Learnt, clauses-reads.Asked, clauses-reads.Learnt, narrow-clause-below t, narrow-clause.Post) (narrow-atom-at t) narrow-atom.Post narrow-atom-Inv-loop narrow-atom-μ-loop
-narrow-atom-loop-holds t c = (refl, (more-none (c .before .before .before .before .before .before .before .before .before .before .before .args .marks .now), tried.atom-start))
+narrow-atom-loop-holds : (t : ℕ) → narrow-atom-lts.Need-loop-holds (has-variable-reads.Asked, has-variable-reads.Learnt, predicate-key-reads.Asked, predicate-key-reads.Learnt, arguments-of-reads.Asked, arguments-of-reads.Learnt, clauses-reads.Asked, clauses-reads.Learnt, narrow-clause-below t, narrow-clause.Post) (narrow-atom-at t) narrow-atom.Post narrow-atom-Inv-loop narrow-atom-μ-loop
+narrow-atom-loop-holds t c = (refl, (more-none (c .before .before .before .before .before .before .before .before .before .before .before .before .before .args .marks .now), tried.atom-start))
 
-narrow-atom-narrow-clause-requires : (t : ℕ) → narrow-atom-lts.Need-narrow-clause-requires (has-variable-reads.Asked, has-variable-reads.Learnt, predicate-key-reads.Asked, predicate-key-reads.Learnt, clauses-reads.Asked, clauses-reads.Learnt, narrow-clause-below t, narrow-clause.Post) (narrow-atom-at t) narrow-atom.Post narrow-atom-Inv-loop narrow-atom-μ-loop
-narrow-atom-narrow-clause-requires t c κs = (omega (arith, c .before .before .before .before .before .before .before .before .before .before .before .before .before .before .before .pre .0), tt)
+narrow-atom-narrow-clause-requires : (t : ℕ) → narrow-atom-lts.Need-narrow-clause-requires (has-variable-reads.Asked, has-variable-reads.Learnt, predicate-key-reads.Asked, predicate-key-reads.Learnt, arguments-of-reads.Asked, arguments-of-reads.Learnt, clauses-reads.Asked, clauses-reads.Learnt, narrow-clause-below t, narrow-clause.Post) (narrow-atom-at t) narrow-atom.Post narrow-atom-Inv-loop narrow-atom-μ-loop
+narrow-atom-narrow-clause-requires t c κs = (omega (arith, c .before .before .before .before .before .before .before .before .before .before .before .before .before .before .before .before .before .pre .0), tt)
 
-narrow-atom-same-length-2 : (t : ℕ) → narrow-atom-lts.Need-same-length-2 (has-variable-reads.Asked, has-variable-reads.Learnt, predicate-key-reads.Asked, predicate-key-reads.Learnt, clauses-reads.Asked, clauses-reads.Learnt, narrow-clause-below t, narrow-clause.Post) (narrow-atom-at t) narrow-atom.Post narrow-atom-Inv-loop narrow-atom-μ-loop
+narrow-atom-same-length-2 : (t : ℕ) → narrow-atom-lts.Need-same-length-2 (has-variable-reads.Asked, has-variable-reads.Learnt, predicate-key-reads.Asked, predicate-key-reads.Learnt, arguments-of-reads.Asked, arguments-of-reads.Learnt, clauses-reads.Asked, clauses-reads.Learnt, narrow-clause-below t, narrow-clause.Post) (narrow-atom-at t) narrow-atom.Post narrow-atom-Inv-loop narrow-atom-μ-loop
 narrow-atom-same-length-2 t c = c .before .before .before .before .before .narrow-clause .kept .1 .1 .1 .0 ∙ c .before .before .before .before .before .before .before .before .before .loop .inv .0
 
-narrow-atom-same-length-3 : (t : ℕ) → narrow-atom-lts.Need-same-length-3 (has-variable-reads.Asked, has-variable-reads.Learnt, predicate-key-reads.Asked, predicate-key-reads.Learnt, clauses-reads.Asked, clauses-reads.Learnt, narrow-clause-below t, narrow-clause.Post) (narrow-atom-at t) narrow-atom.Post narrow-atom-Inv-loop narrow-atom-μ-loop
-narrow-atom-same-length-3 t c = c .before .before .before .before .before .narrow-clause .kept .1 .1 .1 .1 .1 .1 .1 .1 .1 .1 .0 ∙ c .before .before .before .before .before .before .before .before .before .loop .inv .1 .0 .long
+narrow-atom-same-length-3 : (t : ℕ) → narrow-atom-lts.Need-same-length-3 (has-variable-reads.Asked, has-variable-reads.Learnt, predicate-key-reads.Asked, predicate-key-reads.Learnt, arguments-of-reads.Asked, arguments-of-reads.Learnt, clauses-reads.Asked, clauses-reads.Learnt, narrow-clause-below t, narrow-clause.Post) (narrow-atom-at t) narrow-atom.Post narrow-atom-Inv-loop narrow-atom-μ-loop
+narrow-atom-same-length-3 t c = c .before .before .before .before .before .narrow-clause .kept .1 .1 .1 .1 .1 .1 .1 .1 .1 .1 .1 .0 ∙ c .before .before .before .before .before .before .before .before .before .loop .inv .1 .0 .long
 
-narrow-atom-returns-2 : (t : ℕ) → narrow-atom-lts.Need-returns-2 (has-variable-reads.Asked, has-variable-reads.Learnt, predicate-key-reads.Asked, predicate-key-reads.Learnt, clauses-reads.Asked, clauses-reads.Learnt, narrow-clause-below t, narrow-clause.Post) (narrow-atom-at t) narrow-atom.Post narrow-atom-Inv-loop narrow-atom-μ-loop
+narrow-atom-returns-2 : (t : ℕ) → narrow-atom-lts.Need-returns-2 (has-variable-reads.Asked, has-variable-reads.Learnt, predicate-key-reads.Asked, predicate-key-reads.Learnt, arguments-of-reads.Asked, arguments-of-reads.Learnt, clauses-reads.Asked, clauses-reads.Learnt, narrow-clause-below t, narrow-clause.Post) (narrow-atom-at t) narrow-atom.Post narrow-atom-Inv-loop narrow-atom-μ-loop
 narrow-atom-returns-2 t c = let l = c .before .before .before .before .before .before .before .before .before .loop in
     let n = c .before .before .before .before .before .narrow-clause in
-    (more-then (l .inv .1 .0) (n .ensures .0), tried.atom-stops (l .k) (l .inv .1 .1) (l .inv .0) (c .before .before .before .before .before .before .before .before .before .before .before .before .predicate-key .ensures) (n .ensures .1))
+    (more-then (l .inv .1 .0) (n .ensures .0), tried.atom-stops (l .k) (l .inv .1 .1) (l .inv .0) (c .before .before .before .before .before .before .before .before .before .before .before .before .before .before .predicate-key .ensures) (c .before .before .before .before .before .before .before .before .before .before .before .before .arguments-of .ensures) (n .ensures .1))
 
-narrow-atom-add-k : (t : ℕ) → narrow-atom-lts.Need-add-k (has-variable-reads.Asked, has-variable-reads.Learnt, predicate-key-reads.Asked, predicate-key-reads.Learnt, clauses-reads.Asked, clauses-reads.Learnt, narrow-clause-below t, narrow-clause.Post) (narrow-atom-at t) narrow-atom.Post narrow-atom-Inv-loop narrow-atom-μ-loop
+narrow-atom-add-k : (t : ℕ) → narrow-atom-lts.Need-add-k (has-variable-reads.Asked, has-variable-reads.Learnt, predicate-key-reads.Asked, predicate-key-reads.Learnt, arguments-of-reads.Asked, arguments-of-reads.Learnt, clauses-reads.Asked, clauses-reads.Learnt, narrow-clause-below t, narrow-clause.Post) (narrow-atom-at t) narrow-atom.Post narrow-atom-Inv-loop narrow-atom-μ-loop
 narrow-atom-add-k t c = search needs
 
-narrow-atom-loop-less : (t : ℕ) → narrow-atom-lts.Need-loop-less (has-variable-reads.Asked, has-variable-reads.Learnt, predicate-key-reads.Asked, predicate-key-reads.Learnt, clauses-reads.Asked, clauses-reads.Learnt, narrow-clause-below t, narrow-clause.Post) (narrow-atom-at t) narrow-atom.Post narrow-atom-Inv-loop narrow-atom-μ-loop
+narrow-atom-loop-less : (t : ℕ) → narrow-atom-lts.Need-loop-less (has-variable-reads.Asked, has-variable-reads.Learnt, predicate-key-reads.Asked, predicate-key-reads.Learnt, arguments-of-reads.Asked, arguments-of-reads.Learnt, clauses-reads.Asked, clauses-reads.Learnt, narrow-clause-below t, narrow-clause.Post) (narrow-atom-at t) narrow-atom.Post narrow-atom-Inv-loop narrow-atom-μ-loop
 narrow-atom-loop-less t c = search needs
 
-narrow-atom-loop-again : (t : ℕ) → narrow-atom-lts.Need-loop-again (has-variable-reads.Asked, has-variable-reads.Learnt, predicate-key-reads.Asked, predicate-key-reads.Learnt, clauses-reads.Asked, clauses-reads.Learnt, narrow-clause-below t, narrow-clause.Post) (narrow-atom-at t) narrow-atom.Post narrow-atom-Inv-loop narrow-atom-μ-loop
+narrow-atom-loop-again : (t : ℕ) → narrow-atom-lts.Need-loop-again (has-variable-reads.Asked, has-variable-reads.Learnt, predicate-key-reads.Asked, predicate-key-reads.Learnt, arguments-of-reads.Asked, arguments-of-reads.Learnt, clauses-reads.Asked, clauses-reads.Learnt, narrow-clause-below t, narrow-clause.Post) (narrow-atom-at t) narrow-atom.Post narrow-atom-Inv-loop narrow-atom-μ-loop
 narrow-atom-loop-again t c = let l = c .before .before .before .before .before .before .before .before .before .loop in
     let n = c .before .before .before .before .before .narrow-clause in
-    (n .kept .1 .1 .1 .0 ∙ l .inv .0, (more-then (l .inv .1 .0) (n .ensures .0), tried.atom-next (l .k) (l .inv .1 .1) (l .inv .0) (c .before .before .before .before .before .before .before .before .before .before .before .before .predicate-key .ensures) (n .ensures .1) (not-false (n .result) (c .if2 .left)) (n .ensures .0)))
+    (n .kept .1 .1 .1 .0 ∙ l .inv .0, (more-then (l .inv .1 .0) (n .ensures .0), tried.atom-next (l .k) (l .inv .1 .1) (l .inv .0) (c .before .before .before .before .before .before .before .before .before .before .before .before .before .before .predicate-key .ensures) (c .before .before .before .before .before .before .before .before .before .before .before .before .arguments-of .ensures) (n .ensures .1) (not-false (n .result) (c .if2 .left)) (n .ensures .0)))
 
-narrow-atom-same-length-4 : (t : ℕ) → narrow-atom-lts.Need-same-length-4 (has-variable-reads.Asked, has-variable-reads.Learnt, predicate-key-reads.Asked, predicate-key-reads.Learnt, clauses-reads.Asked, clauses-reads.Learnt, narrow-clause-below t, narrow-clause.Post) (narrow-atom-at t) narrow-atom.Post narrow-atom-Inv-loop narrow-atom-μ-loop
+narrow-atom-same-length-4 : (t : ℕ) → narrow-atom-lts.Need-same-length-4 (has-variable-reads.Asked, has-variable-reads.Learnt, predicate-key-reads.Asked, predicate-key-reads.Learnt, arguments-of-reads.Asked, arguments-of-reads.Learnt, clauses-reads.Asked, clauses-reads.Learnt, narrow-clause-below t, narrow-clause.Post) (narrow-atom-at t) narrow-atom.Post narrow-atom-Inv-loop narrow-atom-μ-loop
 narrow-atom-same-length-4 t c = c .before .loop .inv .0
 
-narrow-atom-same-length-5 : (t : ℕ) → narrow-atom-lts.Need-same-length-5 (has-variable-reads.Asked, has-variable-reads.Learnt, predicate-key-reads.Asked, predicate-key-reads.Learnt, clauses-reads.Asked, clauses-reads.Learnt, narrow-clause-below t, narrow-clause.Post) (narrow-atom-at t) narrow-atom.Post narrow-atom-Inv-loop narrow-atom-μ-loop
+narrow-atom-same-length-5 : (t : ℕ) → narrow-atom-lts.Need-same-length-5 (has-variable-reads.Asked, has-variable-reads.Learnt, predicate-key-reads.Asked, predicate-key-reads.Learnt, arguments-of-reads.Asked, arguments-of-reads.Learnt, clauses-reads.Asked, clauses-reads.Learnt, narrow-clause-below t, narrow-clause.Post) (narrow-atom-at t) narrow-atom.Post narrow-atom-Inv-loop narrow-atom-μ-loop
 narrow-atom-same-length-5 t c = c .before .loop .inv .1 .0 .long
 
-narrow-atom-returns-3 : (t : ℕ) → narrow-atom-lts.Need-returns-3 (has-variable-reads.Asked, has-variable-reads.Learnt, predicate-key-reads.Asked, predicate-key-reads.Learnt, clauses-reads.Asked, clauses-reads.Learnt, narrow-clause-below t, narrow-clause.Post) (narrow-atom-at t) narrow-atom.Post narrow-atom-Inv-loop narrow-atom-μ-loop
+narrow-atom-returns-3 : (t : ℕ) → narrow-atom-lts.Need-returns-3 (has-variable-reads.Asked, has-variable-reads.Learnt, predicate-key-reads.Asked, predicate-key-reads.Learnt, arguments-of-reads.Asked, arguments-of-reads.Learnt, clauses-reads.Asked, clauses-reads.Learnt, narrow-clause-below t, narrow-clause.Post) (narrow-atom-at t) narrow-atom.Post narrow-atom-Inv-loop narrow-atom-μ-loop
 narrow-atom-returns-3 t c = let l = c .before .loop in (l .inv .1 .0, tried.atom-done (l .k) (c .before .before .clauses .result) (c .loop-test .left) (c .before .before .clauses .ensures) (l .inv .1 .1))
 
 narrow-clause-by-clause-requires : (t : ℕ) → narrow-clause-lts.Need-by-clause-requires (by-clause-reads.Asked, by-clause-reads.Learnt, narrow-rule-below t, narrow-rule.Post) (narrow-clause-at t) narrow-clause.Post
@@ -233,7 +237,7 @@ narrow-clause-same-length-4 : (t : ℕ) → narrow-clause-lts.Need-same-length-4
 narrow-clause-same-length-4 t c = c .before .before .before .before .narrow-rule .kept .1 .1 .1 .1 .1 .1 .1 .1 .0 ∙ c .before .before .before .before .before .before .before .before .before .before .by-clause .ensures .more .long
 
 narrow-clause-returns-2 : (t : ℕ) → narrow-clause-lts.Need-returns-2 (by-clause-reads.Asked, by-clause-reads.Learnt, narrow-rule-below t, narrow-rule.Post) (narrow-clause-at t) narrow-clause.Post
-narrow-clause-returns-2 t c = (more-then (c .before .before .before .before .before .before .before .before .before .before .by-clause .ensures .more) (c .before .before .before .before .narrow-rule .ensures .0), λ P. c .before .before .before .before .narrow-rule .ensures .1 (c .before .before .before .before .before .before .before .before .before .before .before .before .before .before .before .before .before .before .args .own))
+narrow-clause-returns-2 t c = (more-then (c .before .before .before .before .before .before .before .before .before .before .by-clause .ensures .more) (c .before .before .before .before .narrow-rule .ensures .0), λ P ds us o c′ bs a rd Q. c .before .before .before .before .narrow-rule .ensures .1 (c .before .before .before .before .before .before .before .before .before .before .before .before .before .before .before .before .before .before .args .own) ds us o c′ bs a rd)
 
 narrow-goal-returns : (t : ℕ) → narrow-goal-lts.Need-returns (word-there-reads.Asked, word-there-reads.Learnt, narrow-atom-below t, narrow-atom.Post, narrow-and-below t, narrow-and.Post) (narrow-goal-at t) narrow-goal.Post
 narrow-goal-returns t c = let x = c .before .before .before .before .before .before .args in (λ e. more-none (x .marks .now), tried.goal-nothing (x .height))
@@ -396,6 +400,8 @@ pub +narrow-and+narrow-atom+narrow-clause+narrow-goal+narrow-rule-spec : {M : Ty
       has-variable-reads.Learnt,
       predicate-key-reads.Asked,
       predicate-key-reads.Learnt,
+      arguments-of-reads.Asked,
+      arguments-of-reads.Learnt,
       clauses-reads.Asked,
       clauses-reads.Learnt,
       narrow-clause-below t,
@@ -409,6 +415,7 @@ pub +narrow-and+narrow-atom+narrow-clause+narrow-goal+narrow-rule-spec : {M : Ty
     (narrow-atom-same-length t)
     (narrow-atom-returns t)
     (narrow-atom-predicate-key-requires t)
+    (narrow-atom-arguments-of-requires t)
     (narrow-atom-clauses-requires t)
     (narrow-atom-loop-holds t)
     (narrow-atom-narrow-clause-requires t)
