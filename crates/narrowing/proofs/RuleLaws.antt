@@ -11,11 +11,8 @@ use Rattle.harrop.specs.Formula.{Term, Atom, Goal, Clause}
 use Rattle.harrop.specs.Bindings.{Bindings, replacedAtom, sameAtom}
 use Rattle.harrop.specs.Place.{AtHand, Hand, Plain, listed}
 use Rattle.harrop.proofs.SameLaws.{same-atoms-equal, equal-atoms-same}
-use Rattle.sexp.specs.Sexp.{nesting}
 use Rattle.sexp.specs.declared.words.Value.{Value}
 use Rattle.sexp.specs.declared.words.Value.the-variants as Val
-use Rattle.packet.specs.File.{mostBytes}
-use Rattle.packet.specs.Written.{clauseSexp}
 use Rattle.room.specs.Where.{Files, plus}
 use Rattle.room.specs.declared.Spot.{Spot}
 use Rattle.room.specs.declared.Where.{Where}
@@ -24,7 +21,7 @@ use Rattle.unset.specs.Beside.{SameIs, SameAs}
 use Rattle.proving.specs.Provable.{through, ending, clauseDoes, clausesFrom, provable, serves}
 use Rattle.proving.specs.Stock.{Stock, Keeps}
 use Rattle.proving.specs.Proving.{passes}
-use Rattle.proving.specs.Parts.{PartsOf, quantifiers, core, bodyPlace}
+use Rattle.proving.specs.Parts.{ClauseParts, quantifiers, core, bodyPlace}
 use Rattle.proving.specs.Frames.{alls, unsets}
 use Rattle.proving.specs.Filling.{Filling, Unsets, Starting}
 use Rattle.proving.specs.Hand.{Opened}
@@ -34,11 +31,10 @@ use Rattle.proving.specs.declared.plain.Parts.{Parts}
 use Rattle.proving.proofs.WalkLaws.{any-no}
 use Rattle.proving.proofs.StockLaws.{keeps-same, keeps-then, keeps-less}
 use Rattle.proving.proofs.HandLaws.{opened-none, opened-clause}
-use Rattle.proving.proofs.PassingLaws.{clause-there}
 use Rattle.proving.proofs.CompletesLaws.{completes-becomes}
 use Rattle.proving.proofs.FillingLaws.{plain-is, alls-fillable, never-fills, head-yes, refuted}
 use Rattle.proving.proofs.PlainLaws.{frame-ends, head-at, atom-there, start-keeps, start-filling, filling-body}
-use Rattle.proving.proofs.FillLaws.{starting}
+use Rattle.proving.proofs.FillLaws.{starting, opened-parts}
 use Rattle.narrowing.specs.Tried.{Given, Lacks, ServesNot, Narrows, NarrowsGoal, NarrowsBy}
 
 -- an atom that no clause at hand serves has no proof
@@ -106,16 +102,13 @@ module _ {f : Files} {room mid : List ℕ} {w : Where} {own v left : ℕ} (k : �
         record { kept = z .kept; told = λ y. absurd (false≢true y) }
 
     -- its body says it
-    pub rule-goes : {low after marks : List ℕ} {p : Parts} {z : Value} {u : ℕ} {y : Where} {r : Bool} → PartsOf f x 0 64 p → p .found ≡ true → p .body ≡ true → SameAs f (w .goal) (p .head) v z → z ≡ Val.Is u
+    pub rule-goes : {low after marks : List ℕ} {p : Parts} {z : Value} {u : ℕ} {y : Where} {r : Bool} → ClauseParts f mid k x p → p .found ≡ true → p .body ≡ true → SameAs f (w .goal) (p .head) v z → z ≡ Val.Is u
         → Unsets mid low (p .head) (p .own) → y ≡ bodyPlace w p → NarrowsGoal f low after y (p .own) u left marks r → NarrowsBy f room after w own v k left marks r
     rule-goes {low} {after} {marks} {p} {z} {u} {y} {r} parts found body same is unset at says ds us o c bs a rd =
         let there = opened-clause rd k (subst (Opened room mid k (w .supposed) (w .top)) e opened) in
         let t = there .taken in
         let d = there .clause .clause in
-        let shallow : nesting (clauseSexp d) ≤ 64 = omega (arith, t .framed .shallow) in
-        let few : x .count + 64 ≤ mostBytes = omega (arith, t .framed .shallow) in
-        let found-at = parts .parts d shallow (clause-there t) few (omega arith) found in
-        let plain = sym (parts .told d shallow (clause-there t) few (omega arith)) ∙ found in
+        let (found-at, plain) = opened-parts there parts found in
         let many : p .own ≡ quantifiers d = omega (arith, found-at .own) in
         let n = through-body (starting t found-at) (found-at .headed) unset body same is at says in
         record {

@@ -13,9 +13,9 @@ use places::word_there;
 use proving::Chosen;
 use proving::Parts;
 use proving::body_place;
+use proving::clause_parts;
 use proving::clauses;
 use proving::open_clause;
-use proving::parts_of;
 use proving::unset_all;
 use room::Where;
 use room::part;
@@ -214,7 +214,7 @@ fn narrow_rule<'a>(
     let Chosen::Clause(x) = open_clause(room, k, w.supposed, w.top) else {
         return false;
     };
-    let p = parts_of(rules, goal, terms, x, 0, 64);
+    let p = clause_parts(rules, goal, terms, room, k, x);
     if !p.found {
         return false;
     }

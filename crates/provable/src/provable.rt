@@ -23,6 +23,7 @@ use proving::Parts;
 use proving::body_place;
 use proving::candidates;
 use proving::chain_of;
+use proving::clause_parts;
 use proving::clauses;
 use proving::deeper;
 use proving::fits;
@@ -266,6 +267,10 @@ pub fn use_clause<'a>(
     let Chosen::Clause(x) = open_clause(room, k, w.supposed, w.top) else {
         return false;
     };
+    let p = clause_parts(rules, goal, terms, room, k, x);
+    if p.found {
+        return start(rules, goal, terms, room, w, p, left);
+    }
     through(rules, goal, terms, room, w, x, 64, left)
 }
 

@@ -48,18 +48,21 @@ use Rattle.held.specs.Held.{Holding}
 use Rattle.unset.specs.Unset.{MayBe}
 use Rattle.proving.specs.Stock.{Stock, Keeps}
 use Rattle.proving.specs.Provable.{provable}
-use Rattle.proving.specs.Hand.{deeper}
-use Rattle.proving.specs.Proving.{Ready, Taken, Answers, Proving, ProvingAs, Passing, passes}
-use Rattle.proving.specs.Parts.{PartsAt, PartsOf, CoreAt, isPlain, quantifiers, core, headOf, variableWord, bodyPlace}
+use Rattle.proving.specs.Hand.{deeper, Opened}
+use Rattle.proving.specs.Proving.{Ready, Taken, Answers, Proving, ProvingAs, ProvingBy, Passing, passes}
+use Rattle.proving.specs.Parts.{PartsAt, PartsOf, ClauseParts, CoreAt, isPlain, quantifiers, core, headOf, variableWord, bodyPlace}
 use Rattle.proving.specs.Frames.{alls, unsets, setTo, Completes}
 use Rattle.proving.specs.First.{FirstFrame, Forcing, Located}
 use Rattle.proving.specs.Filling.{Looks, Seen, Dues, BodySeen, Looking, LookingAs, LookingOne, HeadIn, PartsIn, Filling, MayFit, Fits, floor, Unsets, Fillable, Meeting, LookedAll, LookedNew, LookingBody, FillingFrom, FillingEach, LeavesBut, Filled, Fails, FilledWith, FillingWith, Starting, PassingParts, LocatingSome}
 use Rattle.proving.specs.Chain.{chain, inside, headless, ChainAt, ChainOf}
+use Rattle.proving.specs.declared.Chosen.{Chosen}
+use Rattle.proving.specs.declared.Chosen.the-variants as C
 use Rattle.proving.specs.declared.plain.Parts.{Parts}
 use Rattle.proving.proofs.StockLaws.{keeps-same, keeps-then, keeps-less}
 use Rattle.proving.proofs.ReadyLaws.{may-be, allowed-below, ready-kept, ready-part}
 use Rattle.proving.proofs.ProvingLaws.{bytesAt, both-of}
-use Rattle.proving.proofs.PassingLaws.{clause-there}
+use Rattle.proving.proofs.HandLaws.{Opens, opened-head}
+use Rattle.proving.proofs.PassingLaws.{clause-there, by-opened}
 use Rattle.proving.proofs.PlainLaws.{word-in, frame-set, others-stay, head-in, parts-over, frame-is, frame-many, frame-ends, filling-over, filling-kept, word-free, filling-set, filling-body, start-keeps, start-filling}
 use Rattle.proving.proofs.CompletesLaws.{unset-is, open-beyond, open-below, open-less, set-open, open-there, open-set, may-set, unsets-open}
 use Rattle.proving.proofs.LookedLaws.{looked-one, looks-low, looks-first, looks-second, looks-now}
@@ -525,18 +528,21 @@ module _ {f : Files} {room : List ℕ} {w : Where} {x : Spot} {p : Parts} {left 
       go after k (Clause.allD y d) h l ok = absurd h
       go after k (Clause.andD d d′) h l ok = absurd h
 
-  pub plain-found : {after : List ℕ} {r : Bool} (nest : ℕ) → PartsOf f x 0 64 p → p .found ≡ true → PassingParts f room after w p left r → Passing f room after w x nest left r
-  plain-found {after} nest q y m ds us o c bs a d bs′ l t =
-      let shallow : nesting (clauseSexp d) ≤ 64 = omega (arith, t .framed .shallow) in
-      let few : x .count + 64 ≤ mostBytes = omega (arith, t .framed .shallow) in
-      let at = q .parts d shallow (clause-there t) few (omega arith) y in
-      let plain = sym (q .told d shallow (clause-there t) few (omega arith)) ∙ y in
+  -- what is said of the parts is said of the clause
+  pub parts-answer : {after : List ℕ} {r : Bool} {ds : List (Clause Plain)} {us : List Term} {o : List Plain} {c : Hand Plain} {bs : Bindings} {a : Atom} {d : Clause Plain} {bs′ : Bindings} → Taken f room ds us w x left o c bs a d bs′ → PartsAt f x 0 d p → isPlain d ≡ true → PassingParts f room after w p left r → Answers (Stock f ds us (w .supposed) c) (w .supposed) (x .base + x .count) room after (passes us left o c bs a d bs′) r
+  parts-answer {after} {ds = ds} {us = us} {o = o} {c = c} {bs = bs} {a = a} {d = d} {bs′ = bs′} t at plain m =
       let z = m ds us o c bs a (core d) bs′ (starting t at) in
       let same : p .own ≡ quantifiers d = omega (arith, at .own) in
       record {
         kept = keeps-less room after (omega arith) (omega (arith, at .base .0, at .count .0, at .own)) (z .0 .kept);
         answer = z .0 .answer ∙ ap (λ (e : Clause Plain). passes us left o c bs a e bs′) (ap (λ (n : ℕ). alls n (core d)) same ∙ plain-is d plain);
       }
+
+  pub plain-found : {after : List ℕ} {r : Bool} (nest : ℕ) → PartsOf f x 0 64 p → p .found ≡ true → PassingParts f room after w p left r → Passing f room after w x nest left r
+  plain-found nest q y m ds us o c bs a d bs′ l t =
+      let shallow : nesting (clauseSexp d) ≤ 64 = omega (arith, t .framed .shallow) in
+      let few : x .count + 64 ≤ mostBytes = omega (arith, t .framed .shallow) in
+      parts-answer t (q .parts d shallow (clause-there t) few (omega arith) y) (sym (q .told d shallow (clause-there t) few (omega arith)) ∙ y) m
 
   -- every clause with another word is plain
   pub no-path : (nest : ℕ) (k : Word) → WordAt (drop (x .at) (bytesAt f x)) 1 k → (k ≡ W.And → ⊥) → (k ≡ W.All → ⊥) → PartsOf f x 0 64 p → p .found ≡ false → Passing f room room w x nest left false
@@ -550,6 +556,17 @@ module _ {f : Files} {room : List ℕ} {w : Where} {x : Spot} {p : Parts} {left 
       go (Clause.impD g b) e s = false≢true (sym e)
       go (Clause.allD z d) e s = all s
       go (Clause.andD d d′) e s = and s
+
+-- clause k for an atom, by its parts, where the room is right on the heads of rules
+pub opened-parts : {f : Files} {room mid : List ℕ} {ds : List (Clause Plain)} {us : List Term} {w : Where} {y : Spot} {left : ℕ} {o : List Plain} {c : Hand Plain} {bs : Bindings} {a : Atom} {k : ℕ} {p : Parts} (z : Opens f room mid ds us w y left o c bs a k) → ClauseParts f mid k y p → p .found ≡ true → PartsAt f y 0 (z .clause .clause) p × (isPlain (z .clause .clause) ≡ true)
+opened-parts {y = y} z q e =
+    let few : y .count ≤ levels = omega (arith, z .taken .framed .shallow) in
+    (q .parts (z .clause .clause) (clause-there (z .taken)) few (opened-head z) e, sym (q .told (z .clause .clause) (clause-there (z .taken)) few) ∙ e)
+
+pub by-parts : {f : Files} {room mid after : List ℕ} {w : Where} {left : ℕ} {q : Chosen} {y : Spot} {p : Parts} {r : Bool} (k : ℕ) → Opened room mid k (w .supposed) (w .top) q → q ≡ C.Clause y → ClauseParts f mid k y p → p .found ≡ true → PassingParts f mid after w p left r → ProvingBy f room after w k left r
+by-parts k o e q y m = by-opened k o e λ ds us o c bs a z.
+    let (at, plain) = opened-parts z q y in
+    parts-answer (z .taken) at plain m
 
 -- a goal that is a chain of `some`, what stands inside as the body of a clause with no head to compare
 module _ {f : Files} {room : List ℕ} {w : Where} {p : Parts} where

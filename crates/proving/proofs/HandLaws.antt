@@ -15,7 +15,7 @@ use Rattle.harrop.specs.Bindings.{Bindings}
 use Rattle.harrop.specs.Place.{AtHand, Hand, Plain}
 use Rattle.harrop.proofs.ListLaws.{below-member, beyond-none}
 use Rattle.sexp.specs.Sexp.{Stands, nesting}
-use Rattle.packet.specs.Written.{clauseSexp}
+use Rattle.packet.specs.Written.{atomSexp, clauseSexp}
 use Rattle.packet.specs.Barred.{clauseOk}
 use Rattle.packet.specs.declared.Word.{Word}
 use Rattle.packet.specs.declared.Word.the-variants as W
@@ -25,11 +25,14 @@ use Rattle.room.specs.Layout.{levels, rulesWord, ruleWord, stack}
 use Rattle.room.specs.Frame.{bindingsIn, copied}
 use Rattle.room.specs.Spot.{fileOf, bindingsAt, supposedIn}
 use Rattle.room.specs.Where.{Files, Live, Means, plus}
+use Rattle.room.specs.declared.Source.{Source}
 use Rattle.room.specs.declared.Source.the-variants as S
 use Rattle.room.specs.declared.Spot.{Spot}
 use Rattle.room.specs.declared.Where.{Where}
 use Rattle.room.proofs.FrameLaws.{copied-is, frame-copied, copy-kept, copy-length, word-kept}
+use Rattle.narrow.specs.Heads.{HeadIn}
 use Rattle.proving.specs.Hand.{ruleSpot, clauseIn, Opened}
+use Rattle.proving.specs.Parts.{HeadSaid}
 use Rattle.proving.specs.Stock.{Stock, Keeps}
 use Rattle.proving.specs.Proving.{Ready, Taken}
 use Rattle.proving.specs.declared.Chosen.{Chosen}
@@ -136,6 +139,12 @@ pub record Opens (f : Files) (room after : List ℕ) (ds : List (Clause Plain)) 
   pub kept : Keeps (Stock f ds us (w .supposed) c) (w .supposed) (w .top) room after
   pub above : (i : ℕ) → y .base + y .count ≤ i → getD after i 0 ≡ getD room i 0
   pub taken : Taken f after ds us w y left o c bs a (clause .clause) (clause .bindings)
+  pub rule : k < getD after rulesWord 0 → (y .source ≡ S.Rules) × (getElem? ds k ≡ some (clause .clause))
+
+-- the file that a clause at hand is in
+abbrev sourceOf : Chosen → Source
+sourceOf C.Nothing = S.Rules
+sourceOf (C.Clause x) = x .source
 
 module _ {f : Files} {room : List ℕ} {ds : List (Clause Plain)} {us : List Term} {w : Where} {left : ℕ} {o : List Plain} {c : Hand Plain} {bs : Bindings} {a : Atom} (r : Ready f room ds us w (suc left) o c bs (Goal.atom a)) where
   pub opened-none : (k : ℕ) {after : List ℕ} → Opened room after k (w .supposed) (w .top) C.Nothing → (getElem? c k ≡ none) × (after ≡ room)
@@ -154,15 +163,21 @@ module _ {f : Files} {room : List ℕ} {ds : List (Clause Plain)} {us : List Ter
         words = λ i l. word-kept after room (w .top) i front (under i l high);
         stock = stock-low long (λ i l. above i (omega (arith, r .low, b .shallow)));
       } in
+      let ready = ready-kept kept long r in
       record {
         clause = h;
         there = t;
+        rule = λ l.
+            let first : k < getD room rulesWord 0 = omega (arith, l, ready .place .booked .rules .counted, r .place .booked .rules .counted) in (
+              ap (λ (z : Spot). z .source) q ∙ sym (ap sourceOf (rule-chosen room k (w .supposed) (getD room rulesWord 0) refl (getD room (ruleWord k) 0) first refl ∙ e)),
+              r .place .hand .rule k h (omega (arith, first, r .place .booked .rules .counted)) t .1,
+            );
         kept = kept;
         above = λ i l. above i (omega (arith, ap (λ (z : Spot). z .base) q, ap (λ (z : Spot). z .count) q, l));
         taken =
             subst (λ (z : Spot). Taken f after ds us w z left o c bs a (h .clause) (h .bindings)) (sym q)
             (record {
-              ready = ready-kept kept long r;
+              ready = ready;
               framed =
                   record {
                     stands = b .stands;
@@ -179,6 +194,15 @@ module _ {f : Files} {room : List ℕ} {ds : List (Clause Plain)} {us : List Ter
       under : (i : ℕ) → Live (w .supposed) (w .top) i → stack ≤ w .top → i < w .top
       under i (Live.low l) s = omega (arith, r .enough .supposed, s, l)
       under i (Live.high l h) s = h
+
+-- the head of a rule stands where the room says
+pub opened-head : {f : Files} {room after : List ℕ} {ds : List (Clause Plain)} {us : List Term} {w : Where} {y : Spot} {left : ℕ} {o : List Plain} {c : Hand Plain} {bs : Bindings} {a : Atom} {k : ℕ} (z : Opens f room after ds us w y left o c bs a k) → k < getD after rulesWord 0 → HeadSaid f y (getD after (plus 3968 k) 0) (z .clause .clause)
+opened-head {f} {after = after} {k = k} z l b e =
+    let (source, member) = z .rule l in
+    let rules = z .taken .ready .place .booked .rules in
+    let at = subst (HeadIn after (f .rules) k) e (z .taken .ready .stock .heads k (z .clause .clause) member) .1 in
+    subst (λ (s : Source). Stands (fileOf (f .rules) (f .goal) (f .terms) s) (getD after (plus 3968 k) 0) (atomSexp b)) (sym source)
+    (subst (λ (i : ℕ). Stands (f .rules) (getD after i 0) (atomSexp b)) {x = 3968 + k} {y = plus 3968 k} (omega (arith, l, rules .counted, rules .few)) at)
 
 -- the offset of the word that says what rule k is, as the code makes it
 pub fact-at : (room : List ℕ) (k : ℕ) {i n at : ℕ} → i ≡ plus 1 k → n ≡ getD room i 0 → at ≡ plus n 1 → at ≡ plus (getD room (plus 1 k) 0) 1

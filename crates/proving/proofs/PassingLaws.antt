@@ -48,7 +48,7 @@ use Rattle.proving.proofs.WalkLaws.{any-here, any-none}
 use Rattle.proving.proofs.StockLaws.{keeps-same, keeps-then, keeps-less, keeps-push}
 use Rattle.heads.proofs.HeadLaws.{clause-says, clause-is, clause-has-row, heads, first-part, second-found, first-found}
 use Rattle.proving.proofs.ReadyLaws.{may-be, allowed-below, ready-kept}
-use Rattle.proving.proofs.HandLaws.{opened-none, opened-clause}
+use Rattle.proving.proofs.HandLaws.{Opens, opened-none, opened-clause}
 use Rattle.proving.proofs.ProvingLaws.{bytesAt, and-no, and-yes, or-yes, or-no, both-of}
 
 module _ {f : Files} {room : List ℕ} {ds : List (Clause Plain)} {us : List Term} {w : Where} {x : Spot} {left : ℕ} {o : List Plain} {c : Hand Plain} {bs : Bindings} {a : Atom} {d : Clause Plain} {bs′ : Bindings} (t : Taken f room ds us w x left o c bs a d bs′) where
@@ -273,12 +273,17 @@ module _ {f : Files} {room after : List ℕ} {w : Where} {left : ℕ} (k : ℕ) 
       let (n, same) = opened-none r k (subst (Opened room after k (w .supposed) (w .top)) e p) in
       record { kept = subst (Keeps (Stock f ds us (w .supposed) c) (w .supposed) (w .top) room) (sym same) (keeps-same room); answer = ap (λ (m : Option (AtHand Plain)). maybe m false λ d. passes us left o c bs a (d .clause) (d .bindings)) (sym n) }
 
-  pub by-clause : {last : List ℕ} {q : Chosen} {y : Spot} {s : Bool} → Opened room after k (w .supposed) (w .top) q → q ≡ C.Clause y → Passing f after last w y 64 left s → ProvingBy f room last w k left s
+  pub by-opened : {last : List ℕ} {q : Chosen} {y : Spot} {s : Bool} → Opened room after k (w .supposed) (w .top) q → q ≡ C.Clause y
+      → ((ds : List (Clause Plain)) (us : List Term) (o : List Plain) (c : Hand Plain) (bs : Bindings) (a : Atom) (z : Opens f room after ds us w y left o c bs a k) → Answers (Stock f ds us (w .supposed) c) (w .supposed) (y .base + y .count) after last (passes us left o c bs a (z .clause .clause) (z .clause .bindings)) s)
+      → ProvingBy f room last w k left s
   unfolding spec.clauseDoes
-  by-clause {last} p e m ds us o c bs a r =
+  by-opened {last} p e m ds us o c bs a r =
       let z = opened-clause r k (subst (Opened room after k (w .supposed) (w .top)) e p) in
-      let b = m ds us o c bs a (z .clause .clause) (z .clause .bindings) (omega (arith, z .taken .framed .shallow)) (z .taken) in
+      let b = m ds us o c bs a z in
       record {
         kept = keeps-then room after last (omega arith) (omega (arith, z .taken .fresh)) (z .kept) (b .kept);
         answer = b .answer ∙ ap (λ (n : Option (AtHand Plain)). maybe n false λ d. passes us left o c bs a (d .clause) (d .bindings)) (sym (z .there));
       }
+
+  pub by-clause : {last : List ℕ} {q : Chosen} {y : Spot} {s : Bool} → Opened room after k (w .supposed) (w .top) q → q ≡ C.Clause y → Passing f after last w y 64 left s → ProvingBy f room last w k left s
+  by-clause p e m = by-opened p e λ ds us o c bs a z. m ds us o c bs a (z .clause .clause) (z .clause .bindings) (omega (arith, z .taken .framed .shallow)) (z .taken)

@@ -18,7 +18,7 @@ ghost use Rattle.proving.specs.Hand.{clauseIn, Opened};
 ghost use Rattle.proving.specs.Hand as hand;
 
 // A word of the room; past the end, 0.
-fn word(room: &[u32], i: usize) -> u32
+pub(crate) fn word(room: &[u32], i: usize) -> u32
     ensures { λ r. ⌜ r ≡ getD (now (room .entry)) i 0 ⌝ }
 {
     if i < room.len() { room[i] } else { 0 }

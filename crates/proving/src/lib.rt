@@ -12,6 +12,7 @@ pub use matching::meet;
 pub use plain::Parts;
 pub use plain::body_place;
 pub use plain::chain_of;
+pub use plain::clause_parts;
 pub use plain::fits;
 pub use plain::is_plain;
 pub use plain::may_fit;

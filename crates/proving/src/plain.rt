@@ -1,6 +1,7 @@
 // A clause with no `and` on the way to its one head, searched for an atom: its own variables are unset at first, those that the atom forces are set, and the others get one candidate after the other.
 // A goal of the body is looked at as soon as its variables are set, and only then (document 02, Three: no verdict and no strip changes). How the atom forces variables is in src/matching.
 use crate::hand::deeper;
+use crate::hand::word;
 use equal::same_atoms;
 use harrop::Binding;
 use packet::Word;
@@ -16,7 +17,7 @@ use unset::may_be;
 ghost use Rattle.room.specs.Where.{filesOf};
 ghost use mathlib.Core.Bool.{false};
 ghost use mathlib.Core.Path.{_≡_};
-ghost use Rattle.proving.specs.Parts.{PartsOf, PlainAt, variableWord, bodyPlace};
+ghost use Rattle.proving.specs.Parts.{movedTo, HeadBehind, PartsFrom, PartsOf, ClauseParts, PlainAt, variableWord, bodyPlace};
 ghost use Rattle.proving.specs.Chain.{insideAt, ChainOf};
 ghost use Rattle.proving.specs.Filling.{Unsets, MayFit, Fits};
 
@@ -28,6 +29,19 @@ pub struct Parts {
     pub headed: bool,
     pub goal: Spot,
     pub head: Spot,
+}
+
+// The spot of what stands at another offset, in the same frame.
+fn moved(x: Spot, at: usize) -> Spot
+    ensures { λ r. ⌜ r ≡ movedTo x at ⌝ }
+{
+    let source = x.source;
+    Spot {
+        source: source,
+        at,
+        base: x.base,
+        count: x.count,
+    }
 }
 
 // No such clause.
@@ -46,16 +60,38 @@ fn no_parts(x: Spot) -> Parts
     }
 }
 
-// The parts of the clause at a spot.
-pub fn parts_of<'a>(
+// Where the head behind the body of an `imp` stands: where it is known to stand, else past the body.
+fn head_behind<'a>(
     rules: &'a [u8],
     goal: &'a [u8],
     terms: &'a [u8],
     x: Spot,
+    known: bool,
+    at: usize,
+) -> After
+    ensures { λ r. ⌜ HeadBehind (filesOf (now (rules .entry)) (now (goal .entry)) (now (terms .entry))) x known at r ⌝ }
+{
+    if known {
+        return After::Next(at);
+    }
+    let After::Next(n) = past_part(rules, goal, terms, x, 6) else {
+        return After::Nothing;
+    };
+    After::Next(plus(x.at, n))
+}
+
+// The parts of the clause at a spot; where its head is known to stand, its body is not walked over.
+fn parts_from<'a>(
+    rules: &'a [u8],
+    goal: &'a [u8],
+    terms: &'a [u8],
+    x: Spot,
+    known: bool,
+    at: usize,
     own: usize,
     nest: usize,
 ) -> Parts
-    ensures { λ r. ⌜ PartsOf (filesOf (now (rules .entry)) (now (goal .entry)) (now (terms .entry))) x own nest r ⌝ }
+    ensures { λ r. ⌜ PartsFrom (filesOf (now (rules .entry)) (now (goal .entry)) (now (terms .entry))) x known at own nest r ⌝ }
 {
     if nest == 0 {
         return no_parts(x);
@@ -70,7 +106,7 @@ pub fn parts_of<'a>(
             head: x,
         },
         Word::Imp => {
-            let After::Next(n) = past_part(rules, goal, terms, x, 6) else {
+            let After::Next(n) = head_behind(rules, goal, terms, x, known, at) else {
                 return no_parts(x);
             };
             Parts {
@@ -79,19 +115,58 @@ pub fn parts_of<'a>(
                 body: true,
                 headed: true,
                 goal: further(x, 6),
-                head: further(x, n),
+                head: moved(x, n),
             }
         }
-        Word::All => parts_of(rules, goal, terms, deeper(x, 6), plus(own, 1), nest - 1),
+        Word::All => parts_from(
+            rules,
+            goal,
+            terms,
+            deeper(x, 6),
+            known,
+            at,
+            plus(own, 1),
+            nest - 1,
+        ),
         _ => no_parts(x),
     }
 }
 
-// Whether the clause at a spot is such a one.
+// The parts of the clause at a spot.
+pub fn parts_of<'a>(
+    rules: &'a [u8],
+    goal: &'a [u8],
+    terms: &'a [u8],
+    x: Spot,
+    own: usize,
+    nest: usize,
+) -> Parts
+    ensures { λ r. ⌜ PartsOf (filesOf (now (rules .entry)) (now (goal .entry)) (now (terms .entry))) x own nest r ⌝ }
+{
+    parts_from(rules, goal, terms, x, false, 0, own, nest)
+}
+
+// The parts of clause k at its spot. Of a rule the room says where its head stands.
+pub fn clause_parts<'a>(
+    rules: &'a [u8],
+    goal: &'a [u8],
+    terms: &'a [u8],
+    room: &[u32],
+    k: usize,
+    x: Spot,
+) -> Parts
+    ensures { λ r. ⌜ ClauseParts (filesOf (now (rules .entry)) (now (goal .entry)) (now (terms .entry))) (now (room .entry)) k x r ⌝ }
+{
+    let n = word(room, 0) as usize;
+    let at = word(room, plus(3968, k)) as usize;
+    parts_from(rules, goal, terms, x, k < n, at, 0, 64)
+}
+
+// Whether the clause at a spot is such a one, wherever its head stands.
 pub fn is_plain<'a>(rules: &'a [u8], goal: &'a [u8], terms: &'a [u8], x: Spot) -> bool
     ensures { λ r. ⌜ PlainAt (filesOf (now (rules .entry)) (now (goal .entry)) (now (terms .entry))) x r ⌝ }
 {
-    let p = parts_of(rules, goal, terms, x, 0, 64);
+    let p = parts_from(rules, goal, terms, x, true, 0, 0, 64);
     p.found
 }
 

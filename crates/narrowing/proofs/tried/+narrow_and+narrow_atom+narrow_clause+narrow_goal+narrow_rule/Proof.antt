@@ -40,7 +40,7 @@ use Rattle.places.proofs.word_there.Reads as word-there-reads
 use Rattle.proving.proofs.clauses.Reads as clauses-reads
 use Rattle.proving.proofs.open_clause.Reads as open-clause-reads
 use Rattle.proving.proofs.body_place.Reads as body-place-reads
-use Rattle.proving.proofs.parts_of.Reads as parts-of-reads
+use Rattle.proving.proofs.clause_parts.Reads as clause-parts-reads
 use Rattle.proving.proofs.unset_all.Reads as unset-all-reads
 use Rattle.unset.proofs.same_as.Reads as same-as-reads
 use Rattle.narrowing.proofs.tried.+narrow_and+narrow_atom+narrow_clause+narrow_goal+narrow_rule.{
@@ -284,81 +284,81 @@ narrow-goal-returns-3 t c = (c .before .before .before .before .narrow-and .ensu
 narrow-goal-returns-4 : (t : ℕ) → narrow-goal-lts.Need-returns-4 (word-there-reads.Asked, word-there-reads.Learnt, narrow-atom-below t, narrow-atom.Post, narrow-and-below t, narrow-and.Post) (narrow-goal-at t) narrow-goal.Post
 narrow-goal-returns-4 t c = let x = c .before .before .before .before .before .before .before .before .args in (λ e. more-none (x .marks .now), tried.goal-nothing (x .height))
 
-narrow-rule-open-clause-requires : (t : ℕ) → narrow-rule-lts.Need-open-clause-requires (open-clause-reads.Asked, open-clause-reads.Learnt, parts-of-reads.Asked, parts-of-reads.Learnt, same-as-reads.Asked, same-as-reads.Learnt, spend-reads.Asked, spend-reads.Learnt, unset-all-reads.Asked, unset-all-reads.Learnt, body-place-reads.Asked, body-place-reads.Learnt, narrow-goal-below t, narrow-goal.Post) (narrow-rule-at t) narrow-rule.Post
+narrow-rule-open-clause-requires : (t : ℕ) → narrow-rule-lts.Need-open-clause-requires (open-clause-reads.Asked, open-clause-reads.Learnt, clause-parts-reads.Asked, clause-parts-reads.Learnt, same-as-reads.Asked, same-as-reads.Learnt, spend-reads.Asked, spend-reads.Learnt, unset-all-reads.Asked, unset-all-reads.Learnt, body-place-reads.Asked, body-place-reads.Learnt, narrow-goal-below t, narrow-goal.Post) (narrow-rule-at t) narrow-rule.Post
 narrow-rule-open-clause-requires t c κs = search needs
 
-narrow-rule-enum-known-x : (t : ℕ) → narrow-rule-lts.Need-enum-known-x (open-clause-reads.Asked, open-clause-reads.Learnt, parts-of-reads.Asked, parts-of-reads.Learnt, same-as-reads.Asked, same-as-reads.Learnt, spend-reads.Asked, spend-reads.Learnt, unset-all-reads.Asked, unset-all-reads.Learnt, body-place-reads.Asked, body-place-reads.Learnt, narrow-goal-below t, narrow-goal.Post) (narrow-rule-at t) narrow-rule.Post
+narrow-rule-enum-known-x : (t : ℕ) → narrow-rule-lts.Need-enum-known-x (open-clause-reads.Asked, open-clause-reads.Learnt, clause-parts-reads.Asked, clause-parts-reads.Learnt, same-as-reads.Asked, same-as-reads.Learnt, spend-reads.Asked, spend-reads.Learnt, unset-all-reads.Asked, unset-all-reads.Learnt, body-place-reads.Asked, body-place-reads.Learnt, narrow-goal-below t, narrow-goal.Post) (narrow-rule-at t) narrow-rule.Post
 narrow-rule-enum-known-x t c = search needs
 
-narrow-rule-enum-told : (t : ℕ) → narrow-rule-lts.Need-enum-told (open-clause-reads.Asked, open-clause-reads.Learnt, parts-of-reads.Asked, parts-of-reads.Learnt, same-as-reads.Asked, same-as-reads.Learnt, spend-reads.Asked, spend-reads.Learnt, unset-all-reads.Asked, unset-all-reads.Learnt, body-place-reads.Asked, body-place-reads.Learnt, narrow-goal-below t, narrow-goal.Post) (narrow-rule-at t) narrow-rule.Post
+narrow-rule-enum-told : (t : ℕ) → narrow-rule-lts.Need-enum-told (open-clause-reads.Asked, open-clause-reads.Learnt, clause-parts-reads.Asked, clause-parts-reads.Learnt, same-as-reads.Asked, same-as-reads.Learnt, spend-reads.Asked, spend-reads.Learnt, unset-all-reads.Asked, unset-all-reads.Learnt, body-place-reads.Asked, body-place-reads.Learnt, narrow-goal-below t, narrow-goal.Post) (narrow-rule-at t) narrow-rule.Post
 narrow-rule-enum-told t c = search needs
 
-narrow-rule-same-length : (t : ℕ) → narrow-rule-lts.Need-same-length (open-clause-reads.Asked, open-clause-reads.Learnt, parts-of-reads.Asked, parts-of-reads.Learnt, same-as-reads.Asked, same-as-reads.Learnt, spend-reads.Asked, spend-reads.Learnt, unset-all-reads.Asked, unset-all-reads.Learnt, body-place-reads.Asked, body-place-reads.Learnt, narrow-goal-below t, narrow-goal.Post) (narrow-rule-at t) narrow-rule.Post
+narrow-rule-same-length : (t : ℕ) → narrow-rule-lts.Need-same-length (open-clause-reads.Asked, open-clause-reads.Learnt, clause-parts-reads.Asked, clause-parts-reads.Learnt, same-as-reads.Asked, same-as-reads.Learnt, spend-reads.Asked, spend-reads.Learnt, unset-all-reads.Asked, unset-all-reads.Learnt, body-place-reads.Asked, body-place-reads.Learnt, narrow-goal-below t, narrow-goal.Post) (narrow-rule-at t) narrow-rule.Post
 narrow-rule-same-length t c = c .before .before .before .before .open-clause .kept .0
 
-narrow-rule-returns : (t : ℕ) → narrow-rule-lts.Need-returns (open-clause-reads.Asked, open-clause-reads.Learnt, parts-of-reads.Asked, parts-of-reads.Learnt, same-as-reads.Asked, same-as-reads.Learnt, spend-reads.Asked, spend-reads.Learnt, unset-all-reads.Asked, unset-all-reads.Learnt, body-place-reads.Asked, body-place-reads.Learnt, narrow-goal-below t, narrow-goal.Post) (narrow-rule-at t) narrow-rule.Post
+narrow-rule-returns : (t : ℕ) → narrow-rule-lts.Need-returns (open-clause-reads.Asked, open-clause-reads.Learnt, clause-parts-reads.Asked, clause-parts-reads.Learnt, same-as-reads.Asked, same-as-reads.Learnt, spend-reads.Asked, spend-reads.Learnt, unset-all-reads.Asked, unset-all-reads.Learnt, body-place-reads.Asked, body-place-reads.Learnt, narrow-goal-below t, narrow-goal.Post) (narrow-rule-at t) narrow-rule.Post
 narrow-rule-returns t c = let x = c .before .before .before .before .before .before .before .before .before .before .before .args in (more-none (x .marks .now), λ own. rules.rule-none (x .k) (c .before .before .before .before .open-clause .ensures) (c .enum-told .given .1))
 
-narrow-rule-parts-of-requires : (t : ℕ) → narrow-rule-lts.Need-parts-of-requires (open-clause-reads.Asked, open-clause-reads.Learnt, parts-of-reads.Asked, parts-of-reads.Learnt, same-as-reads.Asked, same-as-reads.Learnt, spend-reads.Asked, spend-reads.Learnt, unset-all-reads.Asked, unset-all-reads.Learnt, body-place-reads.Asked, body-place-reads.Learnt, narrow-goal-below t, narrow-goal.Post) (narrow-rule-at t) narrow-rule.Post
-narrow-rule-parts-of-requires t c κs = search needs
+narrow-rule-clause-parts-requires : (t : ℕ) → narrow-rule-lts.Need-clause-parts-requires (open-clause-reads.Asked, open-clause-reads.Learnt, clause-parts-reads.Asked, clause-parts-reads.Learnt, same-as-reads.Asked, same-as-reads.Learnt, spend-reads.Asked, spend-reads.Learnt, unset-all-reads.Asked, unset-all-reads.Learnt, body-place-reads.Asked, body-place-reads.Learnt, narrow-goal-below t, narrow-goal.Post) (narrow-rule-at t) narrow-rule.Post
+narrow-rule-clause-parts-requires t c κs = search needs
 
-narrow-rule-same-length-2 : (t : ℕ) → narrow-rule-lts.Need-same-length-2 (open-clause-reads.Asked, open-clause-reads.Learnt, parts-of-reads.Asked, parts-of-reads.Learnt, same-as-reads.Asked, same-as-reads.Learnt, spend-reads.Asked, spend-reads.Learnt, unset-all-reads.Asked, unset-all-reads.Learnt, body-place-reads.Asked, body-place-reads.Learnt, narrow-goal-below t, narrow-goal.Post) (narrow-rule-at t) narrow-rule.Post
-narrow-rule-same-length-2 t c = c .before .before .before .before .before .before .before .before .open-clause .kept .0
+narrow-rule-same-length-2 : (t : ℕ) → narrow-rule-lts.Need-same-length-2 (open-clause-reads.Asked, open-clause-reads.Learnt, clause-parts-reads.Asked, clause-parts-reads.Learnt, same-as-reads.Asked, same-as-reads.Learnt, spend-reads.Asked, spend-reads.Learnt, unset-all-reads.Asked, unset-all-reads.Learnt, body-place-reads.Asked, body-place-reads.Learnt, narrow-goal-below t, narrow-goal.Post) (narrow-rule-at t) narrow-rule.Post
+narrow-rule-same-length-2 t c = c .before .before .before .before .before .before .before .before .before .open-clause .kept .0
 
-narrow-rule-returns-2 : (t : ℕ) → narrow-rule-lts.Need-returns-2 (open-clause-reads.Asked, open-clause-reads.Learnt, parts-of-reads.Asked, parts-of-reads.Learnt, same-as-reads.Asked, same-as-reads.Learnt, spend-reads.Asked, spend-reads.Learnt, unset-all-reads.Asked, unset-all-reads.Learnt, body-place-reads.Asked, body-place-reads.Learnt, narrow-goal-below t, narrow-goal.Post) (narrow-rule-at t) narrow-rule.Post
-narrow-rule-returns-2 t c = let x = c .before .before .before .before .before .before .before .before .before .before .before .before .before .before .before .args in (more-none (x .marks .now), λ own. rules.rule-stops (x .k) (c .before .before .before .before .before .before .before .before .open-clause .ensures) (c .before .before .before .before .x .given .1))
+narrow-rule-returns-2 : (t : ℕ) → narrow-rule-lts.Need-returns-2 (open-clause-reads.Asked, open-clause-reads.Learnt, clause-parts-reads.Asked, clause-parts-reads.Learnt, same-as-reads.Asked, same-as-reads.Learnt, spend-reads.Asked, spend-reads.Learnt, unset-all-reads.Asked, unset-all-reads.Learnt, body-place-reads.Asked, body-place-reads.Learnt, narrow-goal-below t, narrow-goal.Post) (narrow-rule-at t) narrow-rule.Post
+narrow-rule-returns-2 t c = let x = c .before .before .before .before .before .before .before .before .before .before .before .before .before .before .before .before .args in (more-none (x .marks .now), λ own. rules.rule-stops (x .k) (c .before .before .before .before .before .before .before .before .before .open-clause .ensures) (c .before .before .before .before .before .x .given .1))
 
-narrow-rule-same-length-3 : (t : ℕ) → narrow-rule-lts.Need-same-length-3 (open-clause-reads.Asked, open-clause-reads.Learnt, parts-of-reads.Asked, parts-of-reads.Learnt, same-as-reads.Asked, same-as-reads.Learnt, spend-reads.Asked, spend-reads.Learnt, unset-all-reads.Asked, unset-all-reads.Learnt, body-place-reads.Asked, body-place-reads.Learnt, narrow-goal-below t, narrow-goal.Post) (narrow-rule-at t) narrow-rule.Post
-narrow-rule-same-length-3 t c = c .before .before .before .before .before .before .before .before .before .before .open-clause .kept .0
+narrow-rule-same-length-3 : (t : ℕ) → narrow-rule-lts.Need-same-length-3 (open-clause-reads.Asked, open-clause-reads.Learnt, clause-parts-reads.Asked, clause-parts-reads.Learnt, same-as-reads.Asked, same-as-reads.Learnt, spend-reads.Asked, spend-reads.Learnt, unset-all-reads.Asked, unset-all-reads.Learnt, body-place-reads.Asked, body-place-reads.Learnt, narrow-goal-below t, narrow-goal.Post) (narrow-rule-at t) narrow-rule.Post
+narrow-rule-same-length-3 t c = c .before .before .before .before .before .before .before .before .before .before .before .open-clause .kept .0
 
-narrow-rule-returns-3 : (t : ℕ) → narrow-rule-lts.Need-returns-3 (open-clause-reads.Asked, open-clause-reads.Learnt, parts-of-reads.Asked, parts-of-reads.Learnt, same-as-reads.Asked, same-as-reads.Learnt, spend-reads.Asked, spend-reads.Learnt, unset-all-reads.Asked, unset-all-reads.Learnt, body-place-reads.Asked, body-place-reads.Learnt, narrow-goal-below t, narrow-goal.Post) (narrow-rule-at t) narrow-rule.Post
-narrow-rule-returns-3 t c = let x = c .before .before .before .before .before .before .before .before .before .before .before .before .before .before .before .before .before .args in (more-none (x .marks .now), λ own. rules.rule-stops (x .k) (c .before .before .before .before .before .before .before .before .before .before .open-clause .ensures) (c .before .before .before .before .before .before .x .given .1))
+narrow-rule-returns-3 : (t : ℕ) → narrow-rule-lts.Need-returns-3 (open-clause-reads.Asked, open-clause-reads.Learnt, clause-parts-reads.Asked, clause-parts-reads.Learnt, same-as-reads.Asked, same-as-reads.Learnt, spend-reads.Asked, spend-reads.Learnt, unset-all-reads.Asked, unset-all-reads.Learnt, body-place-reads.Asked, body-place-reads.Learnt, narrow-goal-below t, narrow-goal.Post) (narrow-rule-at t) narrow-rule.Post
+narrow-rule-returns-3 t c = let x = c .before .before .before .before .before .before .before .before .before .before .before .before .before .before .before .before .before .before .args in (more-none (x .marks .now), λ own. rules.rule-stops (x .k) (c .before .before .before .before .before .before .before .before .before .before .before .open-clause .ensures) (c .before .before .before .before .before .before .before .x .given .1))
 
-narrow-rule-same-as-requires : (t : ℕ) → narrow-rule-lts.Need-same-as-requires (open-clause-reads.Asked, open-clause-reads.Learnt, parts-of-reads.Asked, parts-of-reads.Learnt, same-as-reads.Asked, same-as-reads.Learnt, spend-reads.Asked, spend-reads.Learnt, unset-all-reads.Asked, unset-all-reads.Learnt, body-place-reads.Asked, body-place-reads.Learnt, narrow-goal-below t, narrow-goal.Post) (narrow-rule-at t) narrow-rule.Post
+narrow-rule-same-as-requires : (t : ℕ) → narrow-rule-lts.Need-same-as-requires (open-clause-reads.Asked, open-clause-reads.Learnt, clause-parts-reads.Asked, clause-parts-reads.Learnt, same-as-reads.Asked, same-as-reads.Learnt, spend-reads.Asked, spend-reads.Learnt, unset-all-reads.Asked, unset-all-reads.Learnt, body-place-reads.Asked, body-place-reads.Learnt, narrow-goal-below t, narrow-goal.Post) (narrow-rule-at t) narrow-rule.Post
 narrow-rule-same-as-requires t c κs = search needs
 
-narrow-rule-enum-known-u : (t : ℕ) → narrow-rule-lts.Need-enum-known-u (open-clause-reads.Asked, open-clause-reads.Learnt, parts-of-reads.Asked, parts-of-reads.Learnt, same-as-reads.Asked, same-as-reads.Learnt, spend-reads.Asked, spend-reads.Learnt, unset-all-reads.Asked, unset-all-reads.Learnt, body-place-reads.Asked, body-place-reads.Learnt, narrow-goal-below t, narrow-goal.Post) (narrow-rule-at t) narrow-rule.Post
+narrow-rule-enum-known-u : (t : ℕ) → narrow-rule-lts.Need-enum-known-u (open-clause-reads.Asked, open-clause-reads.Learnt, clause-parts-reads.Asked, clause-parts-reads.Learnt, same-as-reads.Asked, same-as-reads.Learnt, spend-reads.Asked, spend-reads.Learnt, unset-all-reads.Asked, unset-all-reads.Learnt, body-place-reads.Asked, body-place-reads.Learnt, narrow-goal-below t, narrow-goal.Post) (narrow-rule-at t) narrow-rule.Post
 narrow-rule-enum-known-u t c = search needs
 
-narrow-rule-enum-told-2 : (t : ℕ) → narrow-rule-lts.Need-enum-told-2 (open-clause-reads.Asked, open-clause-reads.Learnt, parts-of-reads.Asked, parts-of-reads.Learnt, same-as-reads.Asked, same-as-reads.Learnt, spend-reads.Asked, spend-reads.Learnt, unset-all-reads.Asked, unset-all-reads.Learnt, body-place-reads.Asked, body-place-reads.Learnt, narrow-goal-below t, narrow-goal.Post) (narrow-rule-at t) narrow-rule.Post
+narrow-rule-enum-told-2 : (t : ℕ) → narrow-rule-lts.Need-enum-told-2 (open-clause-reads.Asked, open-clause-reads.Learnt, clause-parts-reads.Asked, clause-parts-reads.Learnt, same-as-reads.Asked, same-as-reads.Learnt, spend-reads.Asked, spend-reads.Learnt, unset-all-reads.Asked, unset-all-reads.Learnt, body-place-reads.Asked, body-place-reads.Learnt, narrow-goal-below t, narrow-goal.Post) (narrow-rule-at t) narrow-rule.Post
 narrow-rule-enum-told-2 t c = search needs
 
-narrow-rule-same-length-4 : (t : ℕ) → narrow-rule-lts.Need-same-length-4 (open-clause-reads.Asked, open-clause-reads.Learnt, parts-of-reads.Asked, parts-of-reads.Learnt, same-as-reads.Asked, same-as-reads.Learnt, spend-reads.Asked, spend-reads.Learnt, unset-all-reads.Asked, unset-all-reads.Learnt, body-place-reads.Asked, body-place-reads.Learnt, narrow-goal-below t, narrow-goal.Post) (narrow-rule-at t) narrow-rule.Post
-narrow-rule-same-length-4 t c = c .before .before .before .before .before .before .before .before .before .before .before .before .before .open-clause .kept .0
+narrow-rule-same-length-4 : (t : ℕ) → narrow-rule-lts.Need-same-length-4 (open-clause-reads.Asked, open-clause-reads.Learnt, clause-parts-reads.Asked, clause-parts-reads.Learnt, same-as-reads.Asked, same-as-reads.Learnt, spend-reads.Asked, spend-reads.Learnt, unset-all-reads.Asked, unset-all-reads.Learnt, body-place-reads.Asked, body-place-reads.Learnt, narrow-goal-below t, narrow-goal.Post) (narrow-rule-at t) narrow-rule.Post
+narrow-rule-same-length-4 t c = c .before .before .before .before .before .before .before .before .before .before .before .before .before .before .open-clause .kept .0
 
-narrow-rule-returns-4 : (t : ℕ) → narrow-rule-lts.Need-returns-4 (open-clause-reads.Asked, open-clause-reads.Learnt, parts-of-reads.Asked, parts-of-reads.Learnt, same-as-reads.Asked, same-as-reads.Learnt, spend-reads.Asked, spend-reads.Learnt, unset-all-reads.Asked, unset-all-reads.Learnt, body-place-reads.Asked, body-place-reads.Learnt, narrow-goal-below t, narrow-goal.Post) (narrow-rule-at t) narrow-rule.Post
-narrow-rule-returns-4 t c = let x = c .before .before .before .before .before .before .before .before .before .before .before .before .before .before .before .before .before .before .before .before .args in (more-none (x .marks .now), λ own. rules.rule-stops (x .k) (c .before .before .before .before .before .before .before .before .before .before .before .before .before .open-clause .ensures) (c .before .before .before .before .before .before .before .before .before .x .given .1))
+narrow-rule-returns-4 : (t : ℕ) → narrow-rule-lts.Need-returns-4 (open-clause-reads.Asked, open-clause-reads.Learnt, clause-parts-reads.Asked, clause-parts-reads.Learnt, same-as-reads.Asked, same-as-reads.Learnt, spend-reads.Asked, spend-reads.Learnt, unset-all-reads.Asked, unset-all-reads.Learnt, body-place-reads.Asked, body-place-reads.Learnt, narrow-goal-below t, narrow-goal.Post) (narrow-rule-at t) narrow-rule.Post
+narrow-rule-returns-4 t c = let x = c .before .before .before .before .before .before .before .before .before .before .before .before .before .before .before .before .before .before .before .before .before .args in (more-none (x .marks .now), λ own. rules.rule-stops (x .k) (c .before .before .before .before .before .before .before .before .before .before .before .before .before .before .open-clause .ensures) (c .before .before .before .before .before .before .before .before .before .before .x .given .1))
 
-narrow-rule-spend-requires : (t : ℕ) → narrow-rule-lts.Need-spend-requires (open-clause-reads.Asked, open-clause-reads.Learnt, parts-of-reads.Asked, parts-of-reads.Learnt, same-as-reads.Asked, same-as-reads.Learnt, spend-reads.Asked, spend-reads.Learnt, unset-all-reads.Asked, unset-all-reads.Learnt, body-place-reads.Asked, body-place-reads.Learnt, narrow-goal-below t, narrow-goal.Post) (narrow-rule-at t) narrow-rule.Post
+narrow-rule-spend-requires : (t : ℕ) → narrow-rule-lts.Need-spend-requires (open-clause-reads.Asked, open-clause-reads.Learnt, clause-parts-reads.Asked, clause-parts-reads.Learnt, same-as-reads.Asked, same-as-reads.Learnt, spend-reads.Asked, spend-reads.Learnt, unset-all-reads.Asked, unset-all-reads.Learnt, body-place-reads.Asked, body-place-reads.Learnt, narrow-goal-below t, narrow-goal.Post) (narrow-rule-at t) narrow-rule.Post
 narrow-rule-spend-requires t c κs = search needs
 
-narrow-rule-same-length-5 : (t : ℕ) → narrow-rule-lts.Need-same-length-5 (open-clause-reads.Asked, open-clause-reads.Learnt, parts-of-reads.Asked, parts-of-reads.Learnt, same-as-reads.Asked, same-as-reads.Learnt, spend-reads.Asked, spend-reads.Learnt, unset-all-reads.Asked, unset-all-reads.Learnt, body-place-reads.Asked, body-place-reads.Learnt, narrow-goal-below t, narrow-goal.Post) (narrow-rule-at t) narrow-rule.Post
-narrow-rule-same-length-5 t c = c .before .before .before .before .before .before .before .before .before .before .before .before .before .before .before .before .before .before .before .open-clause .kept .0
+narrow-rule-same-length-5 : (t : ℕ) → narrow-rule-lts.Need-same-length-5 (open-clause-reads.Asked, open-clause-reads.Learnt, clause-parts-reads.Asked, clause-parts-reads.Learnt, same-as-reads.Asked, same-as-reads.Learnt, spend-reads.Asked, spend-reads.Learnt, unset-all-reads.Asked, unset-all-reads.Learnt, body-place-reads.Asked, body-place-reads.Learnt, narrow-goal-below t, narrow-goal.Post) (narrow-rule-at t) narrow-rule.Post
+narrow-rule-same-length-5 t c = c .before .before .before .before .before .before .before .before .before .before .before .before .before .before .before .before .before .before .before .before .open-clause .kept .0
 
-narrow-rule-same-length-6 : (t : ℕ) → narrow-rule-lts.Need-same-length-6 (open-clause-reads.Asked, open-clause-reads.Learnt, parts-of-reads.Asked, parts-of-reads.Learnt, same-as-reads.Asked, same-as-reads.Learnt, spend-reads.Asked, spend-reads.Learnt, unset-all-reads.Asked, unset-all-reads.Learnt, body-place-reads.Asked, body-place-reads.Learnt, narrow-goal-below t, narrow-goal.Post) (narrow-rule-at t) narrow-rule.Post
+narrow-rule-same-length-6 : (t : ℕ) → narrow-rule-lts.Need-same-length-6 (open-clause-reads.Asked, open-clause-reads.Learnt, clause-parts-reads.Asked, clause-parts-reads.Learnt, same-as-reads.Asked, same-as-reads.Learnt, spend-reads.Asked, spend-reads.Learnt, unset-all-reads.Asked, unset-all-reads.Learnt, body-place-reads.Asked, body-place-reads.Learnt, narrow-goal-below t, narrow-goal.Post) (narrow-rule-at t) narrow-rule.Post
 narrow-rule-same-length-6 t c = c .before .before .before .spend .ensures .long
 
-narrow-rule-returns-5 : (t : ℕ) → narrow-rule-lts.Need-returns-5 (open-clause-reads.Asked, open-clause-reads.Learnt, parts-of-reads.Asked, parts-of-reads.Learnt, same-as-reads.Asked, same-as-reads.Learnt, spend-reads.Asked, spend-reads.Learnt, unset-all-reads.Asked, unset-all-reads.Learnt, body-place-reads.Asked, body-place-reads.Learnt, narrow-goal-below t, narrow-goal.Post) (narrow-rule-at t) narrow-rule.Post
-narrow-rule-returns-5 t c = (c .before .before .before .spend .ensures, λ own. rules.rule-stops (c .before .before .before .before .before .before .before .before .before .before .before .before .before .before .before .before .before .before .before .before .before .before .before .before .before .before .args .k) (c .before .before .before .before .before .before .before .before .before .before .before .before .before .before .before .before .before .before .before .open-clause .ensures) (c .before .before .before .before .before .before .before .before .before .before .before .before .before .before .before .x .given .1))
+narrow-rule-returns-5 : (t : ℕ) → narrow-rule-lts.Need-returns-5 (open-clause-reads.Asked, open-clause-reads.Learnt, clause-parts-reads.Asked, clause-parts-reads.Learnt, same-as-reads.Asked, same-as-reads.Learnt, spend-reads.Asked, spend-reads.Learnt, unset-all-reads.Asked, unset-all-reads.Learnt, body-place-reads.Asked, body-place-reads.Learnt, narrow-goal-below t, narrow-goal.Post) (narrow-rule-at t) narrow-rule.Post
+narrow-rule-returns-5 t c = (c .before .before .before .spend .ensures, λ own. rules.rule-stops (c .before .before .before .before .before .before .before .before .before .before .before .before .before .before .before .before .before .before .before .before .before .before .before .before .before .before .before .args .k) (c .before .before .before .before .before .before .before .before .before .before .before .before .before .before .before .before .before .before .before .before .open-clause .ensures) (c .before .before .before .before .before .before .before .before .before .before .before .before .before .before .before .before .x .given .1))
 
-narrow-rule-unset-all-requires : (t : ℕ) → narrow-rule-lts.Need-unset-all-requires (open-clause-reads.Asked, open-clause-reads.Learnt, parts-of-reads.Asked, parts-of-reads.Learnt, same-as-reads.Asked, same-as-reads.Learnt, spend-reads.Asked, spend-reads.Learnt, unset-all-reads.Asked, unset-all-reads.Learnt, body-place-reads.Asked, body-place-reads.Learnt, narrow-goal-below t, narrow-goal.Post) (narrow-rule-at t) narrow-rule.Post
+narrow-rule-unset-all-requires : (t : ℕ) → narrow-rule-lts.Need-unset-all-requires (open-clause-reads.Asked, open-clause-reads.Learnt, clause-parts-reads.Asked, clause-parts-reads.Learnt, same-as-reads.Asked, same-as-reads.Learnt, spend-reads.Asked, spend-reads.Learnt, unset-all-reads.Asked, unset-all-reads.Learnt, body-place-reads.Asked, body-place-reads.Learnt, narrow-goal-below t, narrow-goal.Post) (narrow-rule-at t) narrow-rule.Post
 narrow-rule-unset-all-requires t c κs = search needs
 
-narrow-rule-body-place-requires : (t : ℕ) → narrow-rule-lts.Need-body-place-requires (open-clause-reads.Asked, open-clause-reads.Learnt, parts-of-reads.Asked, parts-of-reads.Learnt, same-as-reads.Asked, same-as-reads.Learnt, spend-reads.Asked, spend-reads.Learnt, unset-all-reads.Asked, unset-all-reads.Learnt, body-place-reads.Asked, body-place-reads.Learnt, narrow-goal-below t, narrow-goal.Post) (narrow-rule-at t) narrow-rule.Post
+narrow-rule-body-place-requires : (t : ℕ) → narrow-rule-lts.Need-body-place-requires (open-clause-reads.Asked, open-clause-reads.Learnt, clause-parts-reads.Asked, clause-parts-reads.Learnt, same-as-reads.Asked, same-as-reads.Learnt, spend-reads.Asked, spend-reads.Learnt, unset-all-reads.Asked, unset-all-reads.Learnt, body-place-reads.Asked, body-place-reads.Learnt, narrow-goal-below t, narrow-goal.Post) (narrow-rule-at t) narrow-rule.Post
 narrow-rule-body-place-requires t c κs = search needs
 
-narrow-rule-narrow-goal-requires : (t : ℕ) → narrow-rule-lts.Need-narrow-goal-requires (open-clause-reads.Asked, open-clause-reads.Learnt, parts-of-reads.Asked, parts-of-reads.Learnt, same-as-reads.Asked, same-as-reads.Learnt, spend-reads.Asked, spend-reads.Learnt, unset-all-reads.Asked, unset-all-reads.Learnt, body-place-reads.Asked, body-place-reads.Learnt, narrow-goal-below t, narrow-goal.Post) (narrow-rule-at t) narrow-rule.Post
-narrow-rule-narrow-goal-requires t c κs = (omega (arith, c .before .before .before .before .before .before .before .before .before .before .before .before .before .before .before .before .before .before .before .before .before .before .before .before .before .before .before .before .before .before .before .before .before .pre .0), tt)
+narrow-rule-narrow-goal-requires : (t : ℕ) → narrow-rule-lts.Need-narrow-goal-requires (open-clause-reads.Asked, open-clause-reads.Learnt, clause-parts-reads.Asked, clause-parts-reads.Learnt, same-as-reads.Asked, same-as-reads.Learnt, spend-reads.Asked, spend-reads.Learnt, unset-all-reads.Asked, unset-all-reads.Learnt, body-place-reads.Asked, body-place-reads.Learnt, narrow-goal-below t, narrow-goal.Post) (narrow-rule-at t) narrow-rule.Post
+narrow-rule-narrow-goal-requires t c κs = (omega (arith, c .before .before .before .before .before .before .before .before .before .before .before .before .before .before .before .before .before .before .before .before .before .before .before .before .before .before .before .before .before .before .before .before .before .before .pre .0), tt)
 
-narrow-rule-same-length-7 : (t : ℕ) → narrow-rule-lts.Need-same-length-7 (open-clause-reads.Asked, open-clause-reads.Learnt, parts-of-reads.Asked, parts-of-reads.Learnt, same-as-reads.Asked, same-as-reads.Learnt, spend-reads.Asked, spend-reads.Learnt, unset-all-reads.Asked, unset-all-reads.Learnt, body-place-reads.Asked, body-place-reads.Learnt, narrow-goal-below t, narrow-goal.Post) (narrow-rule-at t) narrow-rule.Post
-narrow-rule-same-length-7 t c = c .before .before .before .before .narrow-goal .kept .1 .1 .1 .0 ∙ (c .before .before .before .before .before .before .before .before .before .before .unset-all .kept .0 ∙ c .before .before .before .before .before .before .before .before .before .before .before .before .before .before .before .before .before .before .before .before .before .before .before .before .before .before .before .before .before .before .before .open-clause .kept .0)
+narrow-rule-same-length-7 : (t : ℕ) → narrow-rule-lts.Need-same-length-7 (open-clause-reads.Asked, open-clause-reads.Learnt, clause-parts-reads.Asked, clause-parts-reads.Learnt, same-as-reads.Asked, same-as-reads.Learnt, spend-reads.Asked, spend-reads.Learnt, unset-all-reads.Asked, unset-all-reads.Learnt, body-place-reads.Asked, body-place-reads.Learnt, narrow-goal-below t, narrow-goal.Post) (narrow-rule-at t) narrow-rule.Post
+narrow-rule-same-length-7 t c = c .before .before .before .before .narrow-goal .kept .1 .1 .1 .0 ∙ (c .before .before .before .before .before .before .before .before .before .before .unset-all .kept .0 ∙ c .before .before .before .before .before .before .before .before .before .before .before .before .before .before .before .before .before .before .before .before .before .before .before .before .before .before .before .before .before .before .before .before .open-clause .kept .0)
 
-narrow-rule-same-length-8 : (t : ℕ) → narrow-rule-lts.Need-same-length-8 (open-clause-reads.Asked, open-clause-reads.Learnt, parts-of-reads.Asked, parts-of-reads.Learnt, same-as-reads.Asked, same-as-reads.Learnt, spend-reads.Asked, spend-reads.Learnt, unset-all-reads.Asked, unset-all-reads.Learnt, body-place-reads.Asked, body-place-reads.Learnt, narrow-goal-below t, narrow-goal.Post) (narrow-rule-at t) narrow-rule.Post
+narrow-rule-same-length-8 : (t : ℕ) → narrow-rule-lts.Need-same-length-8 (open-clause-reads.Asked, open-clause-reads.Learnt, clause-parts-reads.Asked, clause-parts-reads.Learnt, same-as-reads.Asked, same-as-reads.Learnt, spend-reads.Asked, spend-reads.Learnt, unset-all-reads.Asked, unset-all-reads.Learnt, body-place-reads.Asked, body-place-reads.Learnt, narrow-goal-below t, narrow-goal.Post) (narrow-rule-at t) narrow-rule.Post
 narrow-rule-same-length-8 t c = c .before .before .before .before .narrow-goal .kept .1 .1 .1 .1 .1 .1 .1 .1 .1 .0 ∙ c .before .before .before .before .before .before .before .before .before .before .before .before .before .before .before .spend .ensures .long
 
-narrow-rule-returns-6 : (t : ℕ) → narrow-rule-lts.Need-returns-6 (open-clause-reads.Asked, open-clause-reads.Learnt, parts-of-reads.Asked, parts-of-reads.Learnt, same-as-reads.Asked, same-as-reads.Learnt, spend-reads.Asked, spend-reads.Learnt, unset-all-reads.Asked, unset-all-reads.Learnt, body-place-reads.Asked, body-place-reads.Learnt, narrow-goal-below t, narrow-goal.Post) (narrow-rule-at t) narrow-rule.Post
-narrow-rule-returns-6 t c = let p = c .before .before .before .before .before .before .before .before .before .before .before .before .before .before .before .before .before .before .before .before .before .before .before .before .before .parts-of .result in
-    (more-then (c .before .before .before .before .before .before .before .before .before .before .before .before .before .before .before .spend .ensures) (c .before .before .before .before .narrow-goal .ensures .0 refl), λ own. rules.rule-goes (c .before .before .before .before .before .before .before .before .before .before .before .before .before .before .before .before .before .before .before .before .before .before .before .before .before .before .before .before .before .before .before .before .before .before .before .before .before .before .args .k) (c .before .before .before .before .before .before .before .before .before .before .before .before .before .before .before .before .before .before .before .before .before .before .before .before .before .before .before .before .before .before .before .open-clause .ensures) (c .before .before .before .before .before .before .before .before .before .before .before .before .before .before .before .before .before .before .before .before .before .before .before .before .before .before .before .x .given .1) (c .before .before .before .before .before .before .before .before .before .before .before .before .before .before .before .before .before .before .before .before .before .before .before .before .before .parts-of .ensures) (not-false (p .found) (c .before .before .before .before .before .before .before .before .before .before .before .before .before .before .before .before .before .before .before .before .before .before .before .if1 .left)) (not-false (p .body) (c .before .before .before .before .before .before .before .before .before .before .before .before .before .before .before .before .before .before .before .before .before .if2 .left)) (c .before .before .before .before .before .before .before .before .before .before .before .before .before .before .before .before .before .before .before .before .same-as .ensures) (c .before .before .before .before .before .before .before .before .before .before .before .before .before .before .before .before .before .before .u .given .1) (c .before .before .before .before .before .before .before .before .before .before .unset-all .ensures) (c .before .before .before .before .before .before .before .body-place .ensures) (c .before .before .before .before .narrow-goal .ensures .1))
+narrow-rule-returns-6 : (t : ℕ) → narrow-rule-lts.Need-returns-6 (open-clause-reads.Asked, open-clause-reads.Learnt, clause-parts-reads.Asked, clause-parts-reads.Learnt, same-as-reads.Asked, same-as-reads.Learnt, spend-reads.Asked, spend-reads.Learnt, unset-all-reads.Asked, unset-all-reads.Learnt, body-place-reads.Asked, body-place-reads.Learnt, narrow-goal-below t, narrow-goal.Post) (narrow-rule-at t) narrow-rule.Post
+narrow-rule-returns-6 t c = let p = c .before .before .before .before .before .before .before .before .before .before .before .before .before .before .before .before .before .before .before .before .before .before .before .before .before .clause-parts .result in
+    (more-then (c .before .before .before .before .before .before .before .before .before .before .before .before .before .before .before .spend .ensures) (c .before .before .before .before .narrow-goal .ensures .0 refl), λ own. rules.rule-goes (c .before .before .before .before .before .before .before .before .before .before .before .before .before .before .before .before .before .before .before .before .before .before .before .before .before .before .before .before .before .before .before .before .before .before .before .before .before .before .before .args .k) (c .before .before .before .before .before .before .before .before .before .before .before .before .before .before .before .before .before .before .before .before .before .before .before .before .before .before .before .before .before .before .before .before .open-clause .ensures) (c .before .before .before .before .before .before .before .before .before .before .before .before .before .before .before .before .before .before .before .before .before .before .before .before .before .before .before .before .x .given .1) (c .before .before .before .before .before .before .before .before .before .before .before .before .before .before .before .before .before .before .before .before .before .before .before .before .before .clause-parts .ensures) (not-false (p .found) (c .before .before .before .before .before .before .before .before .before .before .before .before .before .before .before .before .before .before .before .before .before .before .before .if1 .left)) (not-false (p .body) (c .before .before .before .before .before .before .before .before .before .before .before .before .before .before .before .before .before .before .before .before .before .if2 .left)) (c .before .before .before .before .before .before .before .before .before .before .before .before .before .before .before .before .before .before .before .before .same-as .ensures) (c .before .before .before .before .before .before .before .before .before .before .before .before .before .before .before .before .before .before .u .given .1) (c .before .before .before .before .before .before .before .before .before .before .unset-all .ensures) (c .before .before .before .before .before .before .before .body-place .ensures) (c .before .before .before .before .narrow-goal .ensures .1))
 
 pub +narrow-and+narrow-atom+narrow-clause+narrow-goal+narrow-rule-spec : {M : Type 1} → statement M
 +narrow-and+narrow-atom+narrow-clause+narrow-goal+narrow-rule-spec =
@@ -472,8 +472,8 @@ pub +narrow-and+narrow-atom+narrow-clause+narrow-goal+narrow-rule-spec : {M : Ty
     λ t. narrow-rule-lts.spec (
       open-clause-reads.Asked,
       open-clause-reads.Learnt,
-      parts-of-reads.Asked,
-      parts-of-reads.Learnt,
+      clause-parts-reads.Asked,
+      clause-parts-reads.Learnt,
       same-as-reads.Asked,
       same-as-reads.Learnt,
       spend-reads.Asked,
@@ -492,7 +492,7 @@ pub +narrow-and+narrow-atom+narrow-clause+narrow-goal+narrow-rule-spec : {M : Ty
     (narrow-rule-enum-told t)
     (narrow-rule-same-length t)
     (narrow-rule-returns t)
-    (narrow-rule-parts-of-requires t)
+    (narrow-rule-clause-parts-requires t)
     (narrow-rule-same-length-2 t)
     (narrow-rule-returns-2 t)
     (narrow-rule-same-length-3 t)

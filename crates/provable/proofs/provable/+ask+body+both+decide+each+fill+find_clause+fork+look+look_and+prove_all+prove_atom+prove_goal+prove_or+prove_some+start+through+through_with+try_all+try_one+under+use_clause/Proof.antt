@@ -99,6 +99,7 @@ use Rattle.proving.proofs.is_fact.Reads as is-fact-reads
 use Rattle.proving.proofs.open_clause.Reads as open-clause-reads
 use Rattle.proving.proofs.body_place.Reads as body-place-reads
 use Rattle.proving.proofs.parts_of.Reads as parts-of-reads
+use Rattle.proving.proofs.clause_parts.Reads as clause-parts-reads
 use Rattle.proving.proofs.chain_of.Reads as chain-of-reads
 use Rattle.proving.proofs.fits.Reads as fits-reads
 use Rattle.proving.proofs.may_fit.Reads as may-fit-reads
@@ -1526,36 +1527,45 @@ under-returns-3 : (t : ℕ) → under-lts.Need-returns-3 (past-part-reads.Asked,
 under-returns-3 t c = laws.under-goes (c .before .before .before .before .before .before .before .before .before .before .before .before .before .before .before .before .before .before .before .if1 .left) (c .before .before .before .before .before .before .before .before .before .before .before .before .before .further .ensures) (c .before .before .before .before .before .before .before .before .plus .ensures) (c .before .before .before .supposes .ensures) (c .before .before .before .before .before .before .before .before .before .before .before .before .before .before .before .before .before .before .past-part .ensures) (c .before .before .before .before .before .before .before .before .before .before .before .before .before .before .before .before .n .given .1) (c .before .before .before .before .before .before .before .before .before .before .before .before .suppose .ensures) (c .before .before .before .before .before .before .before .forget .ensures .0) (c .before .before .before .before .before .before .before .forget .ensures .1) (c .before .before .prove-goal .ensures)
 
 -- src/provable.rt:288:29
-use-clause-open-clause-requires : (t : ℕ) → use-clause-lts.Need-open-clause-requires (open-clause-reads.Asked, open-clause-reads.Learnt, through-below t, through.Post) (use-clause-at t) use-clause.Post
+use-clause-open-clause-requires : (t : ℕ) → use-clause-lts.Need-open-clause-requires (open-clause-reads.Asked, open-clause-reads.Learnt, clause-parts-reads.Asked, clause-parts-reads.Learnt, start-below t, start.Post, through-below t, through.Post) (use-clause-at t) use-clause.Post
 use-clause-open-clause-requires t c κs = search needs
 
 -- src/provable.rt:288:24
-use-clause-enum-known-x : (t : ℕ) → use-clause-lts.Need-enum-known-x (open-clause-reads.Asked, open-clause-reads.Learnt, through-below t, through.Post) (use-clause-at t) use-clause.Post
+use-clause-enum-known-x : (t : ℕ) → use-clause-lts.Need-enum-known-x (open-clause-reads.Asked, open-clause-reads.Learnt, clause-parts-reads.Asked, clause-parts-reads.Learnt, start-below t, start.Post, through-below t, through.Post) (use-clause-at t) use-clause.Post
 use-clause-enum-known-x t c = search needs
 
 -- src/provable.rt:289:9
-use-clause-enum-told : (t : ℕ) → use-clause-lts.Need-enum-told (open-clause-reads.Asked, open-clause-reads.Learnt, through-below t, through.Post) (use-clause-at t) use-clause.Post
+use-clause-enum-told : (t : ℕ) → use-clause-lts.Need-enum-told (open-clause-reads.Asked, open-clause-reads.Learnt, clause-parts-reads.Asked, clause-parts-reads.Learnt, start-below t, start.Post, through-below t, through.Post) (use-clause-at t) use-clause.Post
 use-clause-enum-told t c = search needs
 
 -- src/provable.rt:289:9
-use-clause-same-length : (t : ℕ) → use-clause-lts.Need-same-length (open-clause-reads.Asked, open-clause-reads.Learnt, through-below t, through.Post) (use-clause-at t) use-clause.Post
+use-clause-same-length : (t : ℕ) → use-clause-lts.Need-same-length (open-clause-reads.Asked, open-clause-reads.Learnt, clause-parts-reads.Asked, clause-parts-reads.Learnt, start-below t, start.Post, through-below t, through.Post) (use-clause-at t) use-clause.Post
 use-clause-same-length t c = search needs
 
 -- src/provable.rt:289:9
-use-clause-returns : (t : ℕ) → use-clause-lts.Need-returns (open-clause-reads.Asked, open-clause-reads.Learnt, through-below t, through.Post) (use-clause-at t) use-clause.Post
+use-clause-returns : (t : ℕ) → use-clause-lts.Need-returns (open-clause-reads.Asked, open-clause-reads.Learnt, clause-parts-reads.Asked, clause-parts-reads.Learnt, start-below t, start.Post, through-below t, through.Post) (use-clause-at t) use-clause.Post
 use-clause-returns t c = (passing.by-none (c .before .before .before .before .before .before .before .before .before .before .args .k) (c .before .before .before .before .open-clause .ensures) (c .enum-told .given .1), locating.located-no-clause (c .before .before .before .before .before .before .before .before .before .before .args .k))
 
--- src/provable.rt:291:5
-use-clause-through-requires : (t : ℕ) → use-clause-lts.Need-through-requires (open-clause-reads.Asked, open-clause-reads.Learnt, through-below t, through.Post) (use-clause-at t) use-clause.Post
-use-clause-through-requires t c κs = search needs
+use-clause-clause-parts-requires : (t : ℕ) → use-clause-lts.Need-clause-parts-requires (open-clause-reads.Asked, open-clause-reads.Learnt, clause-parts-reads.Asked, clause-parts-reads.Learnt, start-below t, start.Post, through-below t, through.Post) (use-clause-at t) use-clause.Post
+use-clause-clause-parts-requires t c κs = search needs
 
--- src/provable.rt:277:1
-use-clause-same-length-2 : (t : ℕ) → use-clause-lts.Need-same-length-2 (open-clause-reads.Asked, open-clause-reads.Learnt, through-below t, through.Post) (use-clause-at t) use-clause.Post
+use-clause-start-requires : (t : ℕ) → use-clause-lts.Need-start-requires (open-clause-reads.Asked, open-clause-reads.Learnt, clause-parts-reads.Asked, clause-parts-reads.Learnt, start-below t, start.Post, through-below t, through.Post) (use-clause-at t) use-clause.Post
+use-clause-start-requires t c κs = (omega (arith, c .before .before .before .before .before .before .before .before .before .before .before .before .before .before .before .pre .0, c .before .before .clause-parts .ensures .few), tt)
+
+use-clause-same-length-2 : (t : ℕ) → use-clause-lts.Need-same-length-2 (open-clause-reads.Asked, open-clause-reads.Learnt, clause-parts-reads.Asked, clause-parts-reads.Learnt, start-below t, start.Post, through-below t, through.Post) (use-clause-at t) use-clause.Post
 use-clause-same-length-2 t c = search needs
 
--- src/provable.rt:277:1
-use-clause-returns-2 : (t : ℕ) → use-clause-lts.Need-returns-2 (open-clause-reads.Asked, open-clause-reads.Learnt, through-below t, through.Post) (use-clause-at t) use-clause.Post
-use-clause-returns-2 t c = (passing.by-clause (c .before .before .before .before .before .before .before .before .before .before .before .before .before .before .before .args .k) (c .before .before .before .before .before .before .before .before .before .open-clause .ensures) (c .before .before .before .before .before .x .given .1) (c .before .before .through .ensures .0), locating.located-by (c .before .before .before .before .before .before .before .before .before .before .before .before .before .before .before .args .k) (c .before .before .before .before .before .before .before .before .before .open-clause .ensures) (c .before .before .before .before .before .x .given .1) (c .before .before .through .ensures .1))
+use-clause-returns-2 : (t : ℕ) → use-clause-lts.Need-returns-2 (open-clause-reads.Asked, open-clause-reads.Learnt, clause-parts-reads.Asked, clause-parts-reads.Learnt, start-below t, start.Post, through-below t, through.Post) (use-clause-at t) use-clause.Post
+use-clause-returns-2 t c = (filling.by-parts (c .before .before .before .before .before .before .before .before .before .before .before .before .before .before .before .before .before .before .args .k) (c .before .before .before .before .before .before .before .before .before .before .before .before .open-clause .ensures) (c .before .before .before .before .before .before .before .before .x .given .1) (c .before .before .before .before .before .clause-parts .ensures) (c .before .before .before .before .if1 .taken) (c .before .before .start .ensures), locating.located-parts (c .before .before .before .before .before .before .before .before .before .before .before .before .before .before .before .before .before .before .args .k) (c .before .before .before .before .before .before .before .before .before .before .before .before .open-clause .ensures) (c .before .before .before .before .before .before .before .before .x .given .1) (c .before .before .before .before .before .clause-parts .ensures) (c .before .before .before .before .if1 .taken) (c .before .before .start .ensures))
+
+use-clause-through-requires : (t : ℕ) → use-clause-lts.Need-through-requires (open-clause-reads.Asked, open-clause-reads.Learnt, clause-parts-reads.Asked, clause-parts-reads.Learnt, start-below t, start.Post, through-below t, through.Post) (use-clause-at t) use-clause.Post
+use-clause-through-requires t c κs = search needs
+
+use-clause-same-length-3 : (t : ℕ) → use-clause-lts.Need-same-length-3 (open-clause-reads.Asked, open-clause-reads.Learnt, clause-parts-reads.Asked, clause-parts-reads.Learnt, start-below t, start.Post, through-below t, through.Post) (use-clause-at t) use-clause.Post
+use-clause-same-length-3 t c = search needs
+
+use-clause-returns-3 : (t : ℕ) → use-clause-lts.Need-returns-3 (open-clause-reads.Asked, open-clause-reads.Learnt, clause-parts-reads.Asked, clause-parts-reads.Learnt, start-below t, start.Post, through-below t, through.Post) (use-clause-at t) use-clause.Post
+use-clause-returns-3 t c = (passing.by-clause (c .before .before .before .before .before .before .before .before .before .before .before .before .before .before .before .before .before .before .args .k) (c .before .before .before .before .before .before .before .before .before .before .before .before .open-clause .ensures) (c .before .before .before .before .before .before .before .before .x .given .1) (c .before .before .through .ensures .0), locating.located-by (c .before .before .before .before .before .before .before .before .before .before .before .before .before .before .before .before .before .before .args .k) (c .before .before .before .before .before .before .before .before .before .before .before .before .open-clause .ensures) (c .before .before .before .before .before .before .before .before .x .given .1) (c .before .before .through .ensures .1))
 
 pub +ask+body+both+decide+each+fill+find-clause+fork+look+look-and+prove-all+prove-atom+prove-goal+prove-or+prove-some+start+through+through-with+try-all+try-one+under+use-clause-spec :
     {M : Type 1} → statement M
@@ -2116,7 +2126,7 @@ pub +ask+body+both+decide+each+fill+find-clause+fork+look+look-and+prove-all+pro
     (under-same-length t)
     (under-returns-3 t))
     λ t. use-clause-lts.spec
-    (open-clause-reads.Asked, open-clause-reads.Learnt, through-below t, through.Post)
+    (open-clause-reads.Asked, open-clause-reads.Learnt, clause-parts-reads.Asked, clause-parts-reads.Learnt, start-below t, start.Post, through-below t, through.Post)
     (use-clause-at t)
     use-clause.Post
     (use-clause-open-clause-requires t)
@@ -2124,6 +2134,10 @@ pub +ask+body+both+decide+each+fill+find-clause+fork+look+look-and+prove-all+pro
     (use-clause-enum-told t)
     (use-clause-same-length t)
     (use-clause-returns t)
-    (use-clause-through-requires t)
+    (use-clause-clause-parts-requires t)
+    (use-clause-start-requires t)
     (use-clause-same-length-2 t)
     (use-clause-returns-2 t)
+    (use-clause-through-requires t)
+    (use-clause-same-length-3 t)
+    (use-clause-returns-3 t)
