@@ -31,7 +31,7 @@ use Rattle.room.proofs.FrameLaws.{bound-means}
 use Rattle.room.proofs.WhereLaws.{file-small}
 use Rattle.mentions.specs.Open.{isOpen, Becomes}
 use Rattle.heads.specs.Heads.{goalWord}
-use Rattle.heads.proofs.HeadLaws.{goal-says, goal-is, heads, first-part, second-found}
+use Rattle.heads.proofs.HeadLaws.{goal-says, goal-is, heads, first-part, first-found, second-found}
 use Rattle.keys.specs.Keys.{PredicateKeyAt}
 use Rattle.arguments.specs.Arguments.{ArgumentsAre, ArgumentsAt}
 use Rattle.narrow.specs.Narrow.{Gives, Known, More, Adds, ByClause}
@@ -62,6 +62,9 @@ given-more M G = record { left = left-more M (G .left); becomes = G .becomes; va
 
 pub more-from : {a b c : List ℕ} → b ≡ a → More b c → More a c
 more-from {c = c} e M = subst (λ (m : List ℕ). More m c) e M
+
+pub more-same : {a b c : List ℕ} → c ≡ b → More a b → More a c
+more-same {a} e M = subst (More a) (sym e) M
 
 module _ {f : Files} {room : List ℕ} {w : Where} {own v : ℕ} {marks : List ℕ} where
   -- nothing is said
@@ -96,7 +99,11 @@ module _ {f : Files} {room : List ℕ} {w : Where} {own v : ℕ} {marks : List �
       let m = subst (λ (q : Where). NarrowsGoal f room mid q own v left marks s) e n ds us o c bs x part in
       record { kept = m .kept; told = λ t i es G. ap (λ (b : Bool). b && provable (listed us) left o c es y) (m .told z i es G) })
 
-  -- or the second does
+  -- there is always a second
+  pub and-lost : {mid : List ℕ} {q : After} (left : ℕ) → PastAt (drop (w .goal .at) (bytesAt f (w .goal))) 6 64 q → q ≡ A.Nothing → NarrowsAs W.And f room mid w own v left marks false
+  and-lost left past e ds us o c bs g h = and-parts left ds us o c bs g h (λ x y r. absurd (first-found (octets "and") (heads .0) (r .place .framed .stands) (omega (arith, r .place .framed .shallow)) past e))
+
+  -- which says it if the first does not
   pub and-second : {mid after before : List ℕ} {u u′ : Where} {q : After} {j : ℕ} {s r : Bool} (left : ℕ) → u ≡ within w 6 → NarrowsGoal f room mid u own v left before s → length mid ≡ length room
       → PastAt (drop (w .goal .at) (bytesAt f (w .goal))) 6 64 q → q ≡ A.Next j → u′ ≡ within w j → NarrowsGoal f mid after u′ own v left marks r → NarrowsAs W.And f room after w own v left marks r
   and-second {mid} {after} {before} {j = j} {s = s} {r = r} left e n long past next e′ n′ ds us o c bs g h = and-parts left ds us o c bs g h (λ x y rd.

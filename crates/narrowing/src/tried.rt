@@ -107,14 +107,14 @@ fn narrow_and<'a>(
 ) -> bool
     ensures { λ r. ⌜ (inner ≡ true → More (now (marks .entry)) (now (marks .exit))) × NarrowsAs W.And (filesOf (now (rules .entry)) (now (goal .entry)) (now (terms .entry))) (now (room .entry)) (now (room .exit)) w own v left (now (marks .exit)) r ⌝ }
 {
-    let After::Next(n) = past_part(rules, goal, terms, w.goal, 6) else {
-        return false;
-    };
     let x = within(w, 6);
     if narrow_goal(rules, goal, terms, room, x, own, v, inner, left, marks) {
         return true;
     }
     again(marks, inner);
+    let After::Next(n) = past_part(rules, goal, terms, w.goal, 6) else {
+        return false;
+    };
     let y = within(w, n);
     narrow_goal(rules, goal, terms, room, y, own, v, inner, left, marks)
 }

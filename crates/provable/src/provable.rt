@@ -79,7 +79,7 @@ pub fn prove_goal<'a>(
     }
 }
 
-// Both parts of an `and`, each with what is left of the height.
+// Both parts of an `and`, each with what is left of the height. Where the second one begins is asked once the first has a proof.
 fn both<'a>(
     rules: &'a [u8],
     goal: &'a [u8],
@@ -90,12 +90,12 @@ fn both<'a>(
 ) -> bool
     ensures { λ r. ⌜ ProvingAs W.And (filesOf (now (rules .entry)) (now (goal .entry)) (now (terms .entry))) (now (room .entry)) (now (room .exit)) w left r ⌝ }
 {
-    let After::Next(n) = past_part(rules, goal, terms, w.goal, 6) else {
-        return false;
-    };
     if !prove_goal(rules, goal, terms, room, within(w, 6), left) {
         return false;
     }
+    let After::Next(n) = past_part(rules, goal, terms, w.goal, 6) else {
+        return false;
+    };
     prove_goal(rules, goal, terms, room, within(w, n), left)
 }
 
@@ -376,7 +376,7 @@ fn look<'a>(
     }
 }
 
-// Both parts of an `and`.
+// Both parts of an `and`; where the second one begins is asked after the first.
 fn look_and<'a>(
     rules: &'a [u8],
     goal: &'a [u8],
@@ -393,9 +393,6 @@ fn look_and<'a>(
     if height == 0 {
         return false;
     }
-    let After::Next(n) = past_part(rules, goal, terms, w.goal, 6) else {
-        return false;
-    };
     if !look(
         rules,
         goal,
@@ -409,6 +406,9 @@ fn look_and<'a>(
     ) {
         return false;
     }
+    let After::Next(n) = past_part(rules, goal, terms, w.goal, 6) else {
+        return false;
+    };
     look(
         rules,
         goal,

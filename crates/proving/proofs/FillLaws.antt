@@ -107,10 +107,10 @@ module _ {f : Files} {room : List ℕ} {w : Where} {own : ℕ} {also : Bool} {v 
       subst (LookClaim f room room ds us w own also v h o c bs false) (sym m)
       (λ r. record { kept = keeps-same room; says = subst (λ (k : ℕ). Looks us o c own bs also v k (Goal.and x y) false) {x = 0} {y = h} (sym z) (looks-low us o c own bs also v 0 x y) })
 
-  pub both-lost : {q : After} (h : ℕ) → PastAt (drop (w .goal .at) (bytesAt f (w .goal))) 6 64 q → q ≡ A.Nothing → LookingAs W.And f room room w own also v h false
-  both-lost h p e ds us o c bs g n =
+  pub both-lost : {mid : List ℕ} {q : After} (h : ℕ) → PastAt (drop (w .goal .at) (bytesAt f (w .goal))) 6 64 q → q ≡ A.Nothing → LookingAs W.And f room mid w own also v h false
+  both-lost {mid} h p e ds us o c bs g n =
       let (x, y, m) = goal-is g n in
-      subst (LookClaim f room room ds us w own also v h o c bs false) (sym m)
+      subst (LookClaim f room mid ds us w own also v h o c bs false) (sym m)
       (λ r. absurd (first-found (octets "and") (heads .0) (r .place .framed .stands) (omega (arith, r .place .framed .shallow)) p e))
 
   first-no : {left : ℕ} {mid : List ℕ} {u : Where} {s : Bool} → u ≡ within w 6 → Looking f room mid u own also v left s → s ≡ false → LookingAs W.And f room mid w own also v (suc left) false

@@ -92,10 +92,10 @@ module _ {f : Files} {room : List ℕ} {w : Where} where
 
   module _ {left : ℕ} where
     -- the part of an `and` or an `or` is always found
-    pub both-lost : {q : After} → PastAt (drop (w .goal .at) (bytesAt f (w .goal))) 6 64 q → q ≡ A.Nothing → ProvingAs W.And f room room w left false
-    both-lost p e ds us o c bs g h =
+    pub both-lost : {mid : List ℕ} {q : After} → PastAt (drop (w .goal .at) (bytesAt f (w .goal))) 6 64 q → q ≡ A.Nothing → ProvingAs W.And f room mid w left false
+    both-lost {mid} p e ds us o c bs g h =
         let (x, y, n) = goal-is g h in
-        subst (Claim f room room ds us w (suc left) o c bs false) (sym n)
+        subst (Claim f room mid ds us w (suc left) o c bs false) (sym n)
         (λ r. absurd (first-found (octets "and") (heads .0) (r .place .framed .stands) (omega (arith, r .place .framed .shallow)) p e))
 
     pub both-first : {mid : List ℕ} {v : Where} {s : Bool} → v ≡ within w 6 → Proving f room mid v left s → s ≡ false → ProvingAs W.And f room mid w left false

@@ -109,50 +109,56 @@ abbrev narrow-rule-below : ℕ → In 3 narrow-rule-kinds.ps
 narrow-rule-below t =
     and 3 narrow-rule-kinds.ps (falls 3 narrow-rule-kinds.ps _<_ μ-narrow-rule t) narrow-rule.Pre
 
-narrow-and-past-part-requires : (t : ℕ) → narrow-and-lts.Need-past-part-requires (past-part-reads.Asked, past-part-reads.Learnt, within-reads.Asked, within-reads.Learnt, narrow-goal-below t, narrow-goal.Post, again-reads.Asked, again-reads.Learnt) (narrow-and-at t) narrow-and.Post
-narrow-and-past-part-requires t c κs = search needs
-
-narrow-and-enum-known-n : (t : ℕ) → narrow-and-lts.Need-enum-known-n (past-part-reads.Asked, past-part-reads.Learnt, within-reads.Asked, within-reads.Learnt, narrow-goal-below t, narrow-goal.Post, again-reads.Asked, again-reads.Learnt) (narrow-and-at t) narrow-and.Post
-narrow-and-enum-known-n t c = search needs
-
-narrow-and-enum-told : (t : ℕ) → narrow-and-lts.Need-enum-told (past-part-reads.Asked, past-part-reads.Learnt, within-reads.Asked, within-reads.Learnt, narrow-goal-below t, narrow-goal.Post, again-reads.Asked, again-reads.Learnt) (narrow-and-at t) narrow-and.Post
-narrow-and-enum-told t c = search needs
-
-narrow-and-returns : (t : ℕ) → narrow-and-lts.Need-returns (past-part-reads.Asked, past-part-reads.Learnt, within-reads.Asked, within-reads.Learnt, narrow-goal-below t, narrow-goal.Post, again-reads.Asked, again-reads.Learnt) (narrow-and-at t) narrow-and.Post
-narrow-and-returns t c = let x = c .before .before .before .before .before .before .before .before .args in (λ e. more-none (x .marks .now), tried.as-nothing W.And (x .left))
-
-narrow-and-within-requires : (t : ℕ) → narrow-and-lts.Need-within-requires (past-part-reads.Asked, past-part-reads.Learnt, within-reads.Asked, within-reads.Learnt, narrow-goal-below t, narrow-goal.Post, again-reads.Asked, again-reads.Learnt) (narrow-and-at t) narrow-and.Post
+narrow-and-within-requires : (t : ℕ) → narrow-and-lts.Need-within-requires (within-reads.Asked, within-reads.Learnt, narrow-goal-below t, narrow-goal.Post, again-reads.Asked, again-reads.Learnt, past-part-reads.Asked, past-part-reads.Learnt) (narrow-and-at t) narrow-and.Post
 narrow-and-within-requires t c κs = search needs
 
-narrow-and-narrow-goal-requires : (t : ℕ) → narrow-and-lts.Need-narrow-goal-requires (past-part-reads.Asked, past-part-reads.Learnt, within-reads.Asked, within-reads.Learnt, narrow-goal-below t, narrow-goal.Post, again-reads.Asked, again-reads.Learnt) (narrow-and-at t) narrow-and.Post
-narrow-and-narrow-goal-requires t c κs = (omega (arith, c .before .before .before .before .before .before .before .before .before .before .before .before .pre .0), tt)
+narrow-and-narrow-goal-requires : (t : ℕ) → narrow-and-lts.Need-narrow-goal-requires (within-reads.Asked, within-reads.Learnt, narrow-goal-below t, narrow-goal.Post, again-reads.Asked, again-reads.Learnt, past-part-reads.Asked, past-part-reads.Learnt) (narrow-and-at t) narrow-and.Post
+narrow-and-narrow-goal-requires t c κs = (omega (arith, c .before .before .before .before .before .before .before .before .pre .0), tt)
 
-narrow-and-same-length : (t : ℕ) → narrow-and-lts.Need-same-length (past-part-reads.Asked, past-part-reads.Learnt, within-reads.Asked, within-reads.Learnt, narrow-goal-below t, narrow-goal.Post, again-reads.Asked, again-reads.Learnt) (narrow-and-at t) narrow-and.Post
+narrow-and-same-length : (t : ℕ) → narrow-and-lts.Need-same-length (within-reads.Asked, within-reads.Learnt, narrow-goal-below t, narrow-goal.Post, again-reads.Asked, again-reads.Learnt, past-part-reads.Asked, past-part-reads.Learnt) (narrow-and-at t) narrow-and.Post
 narrow-and-same-length t c = c .before .before .before .before .before .narrow-goal .kept .1 .1 .1 .0
 
-narrow-and-same-length-2 : (t : ℕ) → narrow-and-lts.Need-same-length-2 (past-part-reads.Asked, past-part-reads.Learnt, within-reads.Asked, within-reads.Learnt, narrow-goal-below t, narrow-goal.Post, again-reads.Asked, again-reads.Learnt) (narrow-and-at t) narrow-and.Post
+narrow-and-same-length-2 : (t : ℕ) → narrow-and-lts.Need-same-length-2 (within-reads.Asked, within-reads.Learnt, narrow-goal-below t, narrow-goal.Post, again-reads.Asked, again-reads.Learnt, past-part-reads.Asked, past-part-reads.Learnt) (narrow-and-at t) narrow-and.Post
 narrow-and-same-length-2 t c = c .before .before .before .before .before .narrow-goal .kept .1 .1 .1 .1 .1 .1 .1 .1 .1 .0
 
-narrow-and-returns-2 : (t : ℕ) → narrow-and-lts.Need-returns-2 (past-part-reads.Asked, past-part-reads.Learnt, within-reads.Asked, within-reads.Learnt, narrow-goal-below t, narrow-goal.Post, again-reads.Asked, again-reads.Learnt) (narrow-and-at t) narrow-and.Post
-narrow-and-returns-2 t c = (c .before .before .before .before .before .narrow-goal .ensures .0, tried.and-first (c .before .before .before .before .before .before .before .before .before .before .before .before .before .before .before .before .before .before .args .left) (c .before .before .before .before .before .before .before .before .within .ensures) (c .before .before .before .before .before .narrow-goal .ensures .1) (c .if1 .taken))
+narrow-and-returns : (t : ℕ) → narrow-and-lts.Need-returns (within-reads.Asked, within-reads.Learnt, narrow-goal-below t, narrow-goal.Post, again-reads.Asked, again-reads.Learnt, past-part-reads.Asked, past-part-reads.Learnt) (narrow-and-at t) narrow-and.Post
+narrow-and-returns t c = (c .before .before .before .before .before .narrow-goal .ensures .0, tried.and-first (c .before .before .before .before .before .before .before .before .before .before .before .before .before .before .args .left) (c .before .before .before .before .before .before .before .before .within .ensures) (c .before .before .before .before .before .narrow-goal .ensures .1) (c .if1 .taken))
 
-narrow-and-again-requires : (t : ℕ) → narrow-and-lts.Need-again-requires (past-part-reads.Asked, past-part-reads.Learnt, within-reads.Asked, within-reads.Learnt, narrow-goal-below t, narrow-goal.Post, again-reads.Asked, again-reads.Learnt) (narrow-and-at t) narrow-and.Post
+narrow-and-again-requires : (t : ℕ) → narrow-and-lts.Need-again-requires (within-reads.Asked, within-reads.Learnt, narrow-goal-below t, narrow-goal.Post, again-reads.Asked, again-reads.Learnt, past-part-reads.Asked, past-part-reads.Learnt) (narrow-and-at t) narrow-and.Post
 narrow-and-again-requires t c κs = search needs
 
-narrow-and-within-requires-2 : (t : ℕ) → narrow-and-lts.Need-within-requires-2 (past-part-reads.Asked, past-part-reads.Learnt, within-reads.Asked, within-reads.Learnt, narrow-goal-below t, narrow-goal.Post, again-reads.Asked, again-reads.Learnt) (narrow-and-at t) narrow-and.Post
+narrow-and-past-part-requires : (t : ℕ) → narrow-and-lts.Need-past-part-requires (within-reads.Asked, within-reads.Learnt, narrow-goal-below t, narrow-goal.Post, again-reads.Asked, again-reads.Learnt, past-part-reads.Asked, past-part-reads.Learnt) (narrow-and-at t) narrow-and.Post
+narrow-and-past-part-requires t c κs = search needs
+
+narrow-and-enum-known-n : (t : ℕ) → narrow-and-lts.Need-enum-known-n (within-reads.Asked, within-reads.Learnt, narrow-goal-below t, narrow-goal.Post, again-reads.Asked, again-reads.Learnt, past-part-reads.Asked, past-part-reads.Learnt) (narrow-and-at t) narrow-and.Post
+narrow-and-enum-known-n t c = search needs
+
+narrow-and-enum-told : (t : ℕ) → narrow-and-lts.Need-enum-told (within-reads.Asked, within-reads.Learnt, narrow-goal-below t, narrow-goal.Post, again-reads.Asked, again-reads.Learnt, past-part-reads.Asked, past-part-reads.Learnt) (narrow-and-at t) narrow-and.Post
+narrow-and-enum-told t c = search needs
+
+narrow-and-same-length-3 : (t : ℕ) → narrow-and-lts.Need-same-length-3 (within-reads.Asked, within-reads.Learnt, narrow-goal-below t, narrow-goal.Post, again-reads.Asked, again-reads.Learnt, past-part-reads.Asked, past-part-reads.Learnt) (narrow-and-at t) narrow-and.Post
+narrow-and-same-length-3 t c = c .before .before .before .before .before .before .before .before .before .before .before .before .narrow-goal .kept .1 .1 .1 .0
+
+narrow-and-same-length-4 : (t : ℕ) → narrow-and-lts.Need-same-length-4 (within-reads.Asked, within-reads.Learnt, narrow-goal-below t, narrow-goal.Post, again-reads.Asked, again-reads.Learnt, past-part-reads.Asked, past-part-reads.Learnt) (narrow-and-at t) narrow-and.Post
+narrow-and-same-length-4 t c = c .before .before .before .before .before .again .kept .0 ∙ c .before .before .before .before .before .before .before .before .before .before .before .before .narrow-goal .kept .1 .1 .1 .1 .1 .1 .1 .1 .1 .0
+
+narrow-and-returns-2 : (t : ℕ) → narrow-and-lts.Need-returns-2 (within-reads.Asked, within-reads.Learnt, narrow-goal-below t, narrow-goal.Post, again-reads.Asked, again-reads.Learnt, past-part-reads.Asked, past-part-reads.Learnt) (narrow-and-at t) narrow-and.Post
+narrow-and-returns-2 t c = (λ e. tried.more-same (c .before .before .before .before .before .again .ensures e) (c .before .before .before .before .before .before .before .before .before .before .before .before .narrow-goal .ensures .0 e), tried.and-lost (c .before .before .before .before .before .before .before .before .before .before .before .before .before .before .before .before .before .before .before .before .before .args .left) (c .before .before .past-part .ensures) (c .enum-told .given .1))
+
+narrow-and-within-requires-2 : (t : ℕ) → narrow-and-lts.Need-within-requires-2 (within-reads.Asked, within-reads.Learnt, narrow-goal-below t, narrow-goal.Post, again-reads.Asked, again-reads.Learnt, past-part-reads.Asked, past-part-reads.Learnt) (narrow-and-at t) narrow-and.Post
 narrow-and-within-requires-2 t c κs = search needs
 
-narrow-and-narrow-goal-requires-2 : (t : ℕ) → narrow-and-lts.Need-narrow-goal-requires-2 (past-part-reads.Asked, past-part-reads.Learnt, within-reads.Asked, within-reads.Learnt, narrow-goal-below t, narrow-goal.Post, again-reads.Asked, again-reads.Learnt) (narrow-and-at t) narrow-and.Post
+narrow-and-narrow-goal-requires-2 : (t : ℕ) → narrow-and-lts.Need-narrow-goal-requires-2 (within-reads.Asked, within-reads.Learnt, narrow-goal-below t, narrow-goal.Post, again-reads.Asked, again-reads.Learnt, past-part-reads.Asked, past-part-reads.Learnt) (narrow-and-at t) narrow-and.Post
 narrow-and-narrow-goal-requires-2 t c κs = (omega (arith, c .before .before .before .before .before .before .before .before .before .before .before .before .before .before .before .before .before .before .before .before .before .before .before .before .before .pre .0), tt)
 
-narrow-and-same-length-3 : (t : ℕ) → narrow-and-lts.Need-same-length-3 (past-part-reads.Asked, past-part-reads.Learnt, within-reads.Asked, within-reads.Learnt, narrow-goal-below t, narrow-goal.Post, again-reads.Asked, again-reads.Learnt) (narrow-and-at t) narrow-and.Post
-narrow-and-same-length-3 t c = c .before .before .before .before .narrow-goal2 .kept .1 .1 .1 .0 ∙ c .before .before .before .before .before .before .before .before .before .before .before .before .before .before .before .before .before .narrow-goal .kept .1 .1 .1 .0
+narrow-and-same-length-5 : (t : ℕ) → narrow-and-lts.Need-same-length-5 (within-reads.Asked, within-reads.Learnt, narrow-goal-below t, narrow-goal.Post, again-reads.Asked, again-reads.Learnt, past-part-reads.Asked, past-part-reads.Learnt) (narrow-and-at t) narrow-and.Post
+narrow-and-same-length-5 t c = c .before .before .before .before .narrow-goal2 .kept .1 .1 .1 .0 ∙ c .before .before .before .before .before .before .before .before .before .before .before .before .before .before .before .before .before .before .before .before .before .narrow-goal .kept .1 .1 .1 .0
 
-narrow-and-same-length-4 : (t : ℕ) → narrow-and-lts.Need-same-length-4 (past-part-reads.Asked, past-part-reads.Learnt, within-reads.Asked, within-reads.Learnt, narrow-goal-below t, narrow-goal.Post, again-reads.Asked, again-reads.Learnt) (narrow-and-at t) narrow-and.Post
-narrow-and-same-length-4 t c = c .before .before .before .before .narrow-goal2 .kept .1 .1 .1 .1 .1 .1 .1 .1 .1 .0 ∙ (c .before .before .before .before .before .before .before .before .before .before .again .kept .0 ∙ c .before .before .before .before .before .before .before .before .before .before .before .before .before .before .before .before .before .narrow-goal .kept .1 .1 .1 .1 .1 .1 .1 .1 .1 .0)
+narrow-and-same-length-6 : (t : ℕ) → narrow-and-lts.Need-same-length-6 (within-reads.Asked, within-reads.Learnt, narrow-goal-below t, narrow-goal.Post, again-reads.Asked, again-reads.Learnt, past-part-reads.Asked, past-part-reads.Learnt) (narrow-and-at t) narrow-and.Post
+narrow-and-same-length-6 t c = c .before .before .before .before .narrow-goal2 .kept .1 .1 .1 .1 .1 .1 .1 .1 .1 .0 ∙ (c .before .before .before .before .before .before .before .before .before .before .before .before .before .before .again .kept .0 ∙ c .before .before .before .before .before .before .before .before .before .before .before .before .before .before .before .before .before .before .before .before .before .narrow-goal .kept .1 .1 .1 .1 .1 .1 .1 .1 .1 .0)
 
-narrow-and-returns-3 : (t : ℕ) → narrow-and-lts.Need-returns-3 (past-part-reads.Asked, past-part-reads.Learnt, within-reads.Asked, within-reads.Learnt, narrow-goal-below t, narrow-goal.Post, again-reads.Asked, again-reads.Learnt) (narrow-and-at t) narrow-and.Post
-narrow-and-returns-3 t c = (λ e. more-then (c .before .before .before .before .before .before .before .before .before .before .before .before .before .before .before .before .before .narrow-goal .ensures .0 e) (tried.more-from (c .before .before .before .before .before .before .before .before .before .before .again .ensures e) (c .before .before .before .before .narrow-goal2 .ensures .0 e)), tried.and-second (c .before .before .before .before .before .before .before .before .before .before .before .before .before .before .before .before .before .before .before .before .before .before .before .before .before .before .before .before .before .before .args .left) (c .before .before .before .before .before .before .before .before .before .before .before .before .before .before .before .before .before .before .before .before .within .ensures) (c .before .before .before .before .before .before .before .before .before .before .before .before .before .before .before .before .before .narrow-goal .ensures .1) (c .before .before .before .before .before .before .before .before .before .before .before .before .before .before .before .before .before .narrow-goal .kept .1 .1 .1 .0) (c .before .before .before .before .before .before .before .before .before .before .before .before .before .before .before .before .before .before .before .before .before .before .before .before .past-part .ensures) (c .before .before .before .before .before .before .before .before .before .before .before .before .before .before .before .before .before .before .before .before .before .before .n .given .1) (c .before .before .before .before .before .before .before .within2 .ensures) (c .before .before .before .before .narrow-goal2 .ensures .1))
+narrow-and-returns-3 : (t : ℕ) → narrow-and-lts.Need-returns-3 (within-reads.Asked, within-reads.Learnt, narrow-goal-below t, narrow-goal.Post, again-reads.Asked, again-reads.Learnt, past-part-reads.Asked, past-part-reads.Learnt) (narrow-and-at t) narrow-and.Post
+narrow-and-returns-3 t c = (λ e. more-then (c .before .before .before .before .before .before .before .before .before .before .before .before .before .before .before .before .before .before .before .before .before .narrow-goal .ensures .0 e) (tried.more-from (c .before .before .before .before .before .before .before .before .before .before .before .before .before .before .again .ensures e) (c .before .before .before .before .narrow-goal2 .ensures .0 e)), tried.and-second (c .before .before .before .before .before .before .before .before .before .before .before .before .before .before .before .before .before .before .before .before .before .before .before .before .before .before .before .before .before .before .args .left) (c .before .before .before .before .before .before .before .before .before .before .before .before .before .before .before .before .before .before .before .before .before .before .before .before .within .ensures) (c .before .before .before .before .before .before .before .before .before .before .before .before .before .before .before .before .before .before .before .before .before .narrow-goal .ensures .1) (c .before .before .before .before .before .before .before .before .before .before .before .before .before .before .before .before .before .before .before .before .before .narrow-goal .kept .1 .1 .1 .0) (c .before .before .before .before .before .before .before .before .before .before .before .past-part .ensures) (c .before .before .before .before .before .before .before .before .before .n .given .1) (c .before .before .before .before .before .before .before .within2 .ensures) (c .before .before .before .before .narrow-goal2 .ensures .1))
 
 abbrev narrow-atom-Inv-loop : narrow-atom-lts.InvT-loop
 narrow-atom-Inv-loop rules goal terms room₀ w own v left marks₀ predicate asked n k₀ room marks k = (length room ≡ length room₀) × (More marks₀ marks × tried.AtomLeft (filesOf rules goal terms) room₀ w own v left marks room k)
@@ -369,31 +375,33 @@ pub +narrow-and+narrow-atom+narrow-clause+narrow-goal+narrow-rule-spec : {M : Ty
     μ-narrow-goal
     μ-narrow-rule
     (λ t. narrow-and-lts.spec (
-      past-part-reads.Asked,
-      past-part-reads.Learnt,
       within-reads.Asked,
       within-reads.Learnt,
       narrow-goal-below t,
       narrow-goal.Post,
       again-reads.Asked,
       again-reads.Learnt,
+      past-part-reads.Asked,
+      past-part-reads.Learnt,
     )
     (narrow-and-at t)
     narrow-and.Post
-    (narrow-and-past-part-requires t)
-    (narrow-and-enum-known-n t)
-    (narrow-and-enum-told t)
-    (narrow-and-returns t)
     (narrow-and-within-requires t)
     (narrow-and-narrow-goal-requires t)
     (narrow-and-same-length t)
     (narrow-and-same-length-2 t)
-    (narrow-and-returns-2 t)
+    (narrow-and-returns t)
     (narrow-and-again-requires t)
-    (narrow-and-within-requires-2 t)
-    (narrow-and-narrow-goal-requires-2 t)
+    (narrow-and-past-part-requires t)
+    (narrow-and-enum-known-n t)
+    (narrow-and-enum-told t)
     (narrow-and-same-length-3 t)
     (narrow-and-same-length-4 t)
+    (narrow-and-returns-2 t)
+    (narrow-and-within-requires-2 t)
+    (narrow-and-narrow-goal-requires-2 t)
+    (narrow-and-same-length-5 t)
+    (narrow-and-same-length-6 t)
     (narrow-and-returns-3 t))
     (λ t. narrow-atom-lts.spec (
       has-variable-reads.Asked,

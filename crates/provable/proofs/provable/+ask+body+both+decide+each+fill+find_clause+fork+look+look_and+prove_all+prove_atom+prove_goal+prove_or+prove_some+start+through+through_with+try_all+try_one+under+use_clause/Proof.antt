@@ -415,53 +415,44 @@ body-same-length t c = c .before .before .look .kept .1 .1 .1 .0
 body-returns-2 : (t : ℕ) → body-lts.Need-returns-2 (body-place-reads.Asked, body-place-reads.Learnt, look-below t, look.Post) (body-at t) body.Post
 body-returns-2 t c = filling.body-looked (not-false (c .before .before .before .before .before .before .before .before .before .before .before .args .p .body) (c .before .before .before .before .before .if1 .left)) (c .before .before .before .body-place .ensures) (c .before .before .look .ensures)
 
--- src/provable.rt:90:26
-both-past-part-requires : (t : ℕ) → both-lts.Need-past-part-requires (past-part-reads.Asked, past-part-reads.Learnt, within-reads.Asked, within-reads.Learnt, prove-goal-below t, prove-goal.Post) (both-at t) both.Post
-both-past-part-requires t c κs = search needs
-
--- src/provable.rt:90:21
-both-enum-known-n : (t : ℕ) → both-lts.Need-enum-known-n (past-part-reads.Asked, past-part-reads.Learnt, within-reads.Asked, within-reads.Learnt, prove-goal-below t, prove-goal.Post) (both-at t) both.Post
-both-enum-known-n t c = search needs
-
--- src/provable.rt:91:9
-both-enum-told : (t : ℕ) → both-lts.Need-enum-told (past-part-reads.Asked, past-part-reads.Learnt, within-reads.Asked, within-reads.Learnt, prove-goal-below t, prove-goal.Post) (both-at t) both.Post
-both-enum-told t c = search needs
-
--- src/provable.rt:91:9
-both-returns : (t : ℕ) → both-lts.Need-returns (past-part-reads.Asked, past-part-reads.Learnt, within-reads.Asked, within-reads.Learnt, prove-goal-below t, prove-goal.Post) (both-at t) both.Post
-both-returns t c = laws.both-lost (c .before .before .past-part .ensures) (c .enum-told .given .1)
-
--- src/provable.rt:93:46
-both-within-requires : (t : ℕ) → both-lts.Need-within-requires (past-part-reads.Asked, past-part-reads.Learnt, within-reads.Asked, within-reads.Learnt, prove-goal-below t, prove-goal.Post) (both-at t) both.Post
+both-within-requires : (t : ℕ) → both-lts.Need-within-requires (within-reads.Asked, within-reads.Learnt, prove-goal-below t, prove-goal.Post, past-part-reads.Asked, past-part-reads.Learnt) (both-at t) both.Post
 both-within-requires t c κs = search needs
 
--- src/provable.rt:93:9
-both-prove-goal-requires : (t : ℕ) → both-lts.Need-prove-goal-requires (past-part-reads.Asked, past-part-reads.Learnt, within-reads.Asked, within-reads.Learnt, prove-goal-below t, prove-goal.Post) (both-at t) both.Post
+both-prove-goal-requires : (t : ℕ) → both-lts.Need-prove-goal-requires (within-reads.Asked, within-reads.Learnt, prove-goal-below t, prove-goal.Post, past-part-reads.Asked, past-part-reads.Learnt) (both-at t) both.Post
 both-prove-goal-requires t c κs = search needs
 
--- src/provable.rt:94:9
-both-same-length : (t : ℕ) → both-lts.Need-same-length (past-part-reads.Asked, past-part-reads.Learnt, within-reads.Asked, within-reads.Learnt, prove-goal-below t, prove-goal.Post) (both-at t) both.Post
+both-same-length : (t : ℕ) → both-lts.Need-same-length (within-reads.Asked, within-reads.Learnt, prove-goal-below t, prove-goal.Post, past-part-reads.Asked, past-part-reads.Learnt) (both-at t) both.Post
 both-same-length t c = search needs
 
--- src/provable.rt:94:9
-both-returns-2 : (t : ℕ) → both-lts.Need-returns-2 (past-part-reads.Asked, past-part-reads.Learnt, within-reads.Asked, within-reads.Learnt, prove-goal-below t, prove-goal.Post) (both-at t) both.Post
-both-returns-2 t c = laws.both-first (c .before .before .before .before .within .ensures) (c .before .before .before .prove-goal .ensures) (not-true (c .before .before .before .prove-goal .result) (c .if1 .taken))
+both-returns : (t : ℕ) → both-lts.Need-returns (within-reads.Asked, within-reads.Learnt, prove-goal-below t, prove-goal.Post, past-part-reads.Asked, past-part-reads.Learnt) (both-at t) both.Post
+both-returns t c = laws.both-first (c .before .before .before .before .within .ensures) (c .before .before .before .prove-goal .ensures) (not-true (c .before .before .before .prove-goal .result) (c .if1 .taken))
 
--- src/provable.rt:96:42
-both-within-requires-2 : (t : ℕ) → both-lts.Need-within-requires-2 (past-part-reads.Asked, past-part-reads.Learnt, within-reads.Asked, within-reads.Learnt, prove-goal-below t, prove-goal.Post) (both-at t) both.Post
+both-past-part-requires : (t : ℕ) → both-lts.Need-past-part-requires (within-reads.Asked, within-reads.Learnt, prove-goal-below t, prove-goal.Post, past-part-reads.Asked, past-part-reads.Learnt) (both-at t) both.Post
+both-past-part-requires t c κs = search needs
+
+both-enum-known-n : (t : ℕ) → both-lts.Need-enum-known-n (within-reads.Asked, within-reads.Learnt, prove-goal-below t, prove-goal.Post, past-part-reads.Asked, past-part-reads.Learnt) (both-at t) both.Post
+both-enum-known-n t c = search needs
+
+both-enum-told : (t : ℕ) → both-lts.Need-enum-told (within-reads.Asked, within-reads.Learnt, prove-goal-below t, prove-goal.Post, past-part-reads.Asked, past-part-reads.Learnt) (both-at t) both.Post
+both-enum-told t c = search needs
+
+both-same-length-2 : (t : ℕ) → both-lts.Need-same-length-2 (within-reads.Asked, within-reads.Learnt, prove-goal-below t, prove-goal.Post, past-part-reads.Asked, past-part-reads.Learnt) (both-at t) both.Post
+both-same-length-2 t c = c .before .before .before .before .before .before .prove-goal .kept .1 .1 .1 .0
+
+both-returns-2 : (t : ℕ) → both-lts.Need-returns-2 (within-reads.Asked, within-reads.Learnt, prove-goal-below t, prove-goal.Post, past-part-reads.Asked, past-part-reads.Learnt) (both-at t) both.Post
+both-returns-2 t c = laws.both-lost (c .before .before .past-part .ensures) (c .enum-told .given .1)
+
+both-within-requires-2 : (t : ℕ) → both-lts.Need-within-requires-2 (within-reads.Asked, within-reads.Learnt, prove-goal-below t, prove-goal.Post, past-part-reads.Asked, past-part-reads.Learnt) (both-at t) both.Post
 both-within-requires-2 t c κs = search needs
 
--- src/provable.rt:96:5
-both-prove-goal-requires-2 : (t : ℕ) → both-lts.Need-prove-goal-requires-2 (past-part-reads.Asked, past-part-reads.Learnt, within-reads.Asked, within-reads.Learnt, prove-goal-below t, prove-goal.Post) (both-at t) both.Post
+both-prove-goal-requires-2 : (t : ℕ) → both-lts.Need-prove-goal-requires-2 (within-reads.Asked, within-reads.Learnt, prove-goal-below t, prove-goal.Post, past-part-reads.Asked, past-part-reads.Learnt) (both-at t) both.Post
 both-prove-goal-requires-2 t c κs = (omega (arith, c .before .before .before .before .before .before .before .before .before .before .before .before .before .before .before .before .pre .0), tt)
 
--- src/provable.rt:80:1
-both-same-length-2 : (t : ℕ) → both-lts.Need-same-length-2 (past-part-reads.Asked, past-part-reads.Learnt, within-reads.Asked, within-reads.Learnt, prove-goal-below t, prove-goal.Post) (both-at t) both.Post
-both-same-length-2 t c = search needs
+both-same-length-3 : (t : ℕ) → both-lts.Need-same-length-3 (within-reads.Asked, within-reads.Learnt, prove-goal-below t, prove-goal.Post, past-part-reads.Asked, past-part-reads.Learnt) (both-at t) both.Post
+both-same-length-3 t c = c .before .before .prove-goal2 .kept .1 .1 .1 .0 ∙ c .before .before .before .before .before .before .before .before .before .before .before .before .prove-goal .kept .1 .1 .1 .0
 
--- src/provable.rt:80:1
-both-returns-3 : (t : ℕ) → both-lts.Need-returns-3 (past-part-reads.Asked, past-part-reads.Learnt, within-reads.Asked, within-reads.Learnt, prove-goal-below t, prove-goal.Post) (both-at t) both.Post
-both-returns-3 t c = laws.both-second (c .before .before .before .before .before .before .before .before .before .within .ensures) (c .before .before .before .within2 .ensures) (c .before .before .before .before .before .before .before .before .before .before .before .before .before .before .past-part .ensures) (c .before .before .before .before .before .before .before .before .before .before .before .before .n .given .1) (c .before .before .before .before .before .before .before .before .prove-goal .ensures) (not-false (c .before .before .before .before .before .before .before .before .prove-goal .result) (c .before .before .before .before .before .if1 .left)) (c .before .before .before .before .before .before .before .before .prove-goal .kept .1 .1 .1 .0) (c .before .before .prove-goal2 .ensures)
+both-returns-3 : (t : ℕ) → both-lts.Need-returns-3 (within-reads.Asked, within-reads.Learnt, prove-goal-below t, prove-goal.Post, past-part-reads.Asked, past-part-reads.Learnt) (both-at t) both.Post
+both-returns-3 t c = laws.both-second (c .before .before .before .before .before .before .before .before .before .before .before .before .before .within .ensures) (c .before .before .before .within2 .ensures) (c .before .before .before .before .before .before .before .before .past-part .ensures) (c .before .before .before .before .before .before .n .given .1) (c .before .before .before .before .before .before .before .before .before .before .before .before .prove-goal .ensures) (not-false (c .before .before .before .before .before .before .before .before .before .before .before .before .prove-goal .result) (c .before .before .before .before .before .before .before .before .before .if1 .left)) (c .before .before .before .before .before .before .before .before .before .before .before .before .prove-goal .kept .1 .1 .1 .0) (c .before .before .prove-goal2 .ensures)
 
 -- src/provable.rt:240:9
 decide-find-clause-requires : (t : ℕ) → decide-lts.Need-find-clause-requires (find-clause-below t, find-clause.Post, clauses-reads.Asked, clauses-reads.Learnt, plus-reads.Asked, plus-reads.Learnt, keep-reads.Asked, keep-reads.Learnt, is-fact-reads.Asked, is-fact-reads.Learnt) (decide-at t) decide.Post
@@ -764,64 +755,53 @@ look-returns-2 t c = let k = c .before .before .before .before .before .word-the
     filling.look-other k (c .before .before .before .before .before .word-there .ensures) (filling.other-word k W.And (0 ∷ 1 ∷ 2 ∷ 3 ∷ 4 ∷ 6 ∷ 7 ∷ 8 ∷ 9 ∷ 10 ∷ 11 ∷ 12 ∷ 13 ∷ 14 ∷ 15 ∷ []) (tag-rank k) (c .before .before .before .before .match .keys2) refl) (c .before .before .ask .ensures)
 
 -- src/provable.rt:414:9
-look-and-returns : (t : ℕ) → look-and-lts.Need-returns (past-part-reads.Asked, past-part-reads.Learnt, within-reads.Asked, within-reads.Learnt, look-below t, look.Post) (look-and-at t) look-and.Post
+look-and-returns : (t : ℕ) → look-and-lts.Need-returns (within-reads.Asked, within-reads.Learnt, look-below t, look.Post, past-part-reads.Asked, past-part-reads.Learnt) (look-and-at t) look-and.Post
 look-and-returns t c = filling.both-flat (c .before .before .before .before .before .args .height) (c .if1 .taken)
 
--- src/provable.rt:416:26
-look-and-past-part-requires : (t : ℕ) → look-and-lts.Need-past-part-requires (past-part-reads.Asked, past-part-reads.Learnt, within-reads.Asked, within-reads.Learnt, look-below t, look.Post) (look-and-at t) look-and.Post
-look-and-past-part-requires t c κs = search needs
-
--- src/provable.rt:416:21
-look-and-enum-known-n : (t : ℕ) → look-and-lts.Need-enum-known-n (past-part-reads.Asked, past-part-reads.Learnt, within-reads.Asked, within-reads.Learnt, look-below t, look.Post) (look-and-at t) look-and.Post
-look-and-enum-known-n t c = search needs
-
--- src/provable.rt:417:9
-look-and-enum-told : (t : ℕ) → look-and-lts.Need-enum-told (past-part-reads.Asked, past-part-reads.Learnt, within-reads.Asked, within-reads.Learnt, look-below t, look.Post) (look-and-at t) look-and.Post
-look-and-enum-told t c = search needs
-
--- src/provable.rt:417:9
-look-and-returns-2 : (t : ℕ) → look-and-lts.Need-returns-2 (past-part-reads.Asked, past-part-reads.Learnt, within-reads.Asked, within-reads.Learnt, look-below t, look.Post) (look-and-at t) look-and.Post
-look-and-returns-2 t c = filling.both-lost (c .before .before .before .before .before .before .before .before .args .height) (c .before .before .past-part .ensures) (c .enum-told .given .1)
-
--- src/provable.rt:424:9
-look-and-within-requires : (t : ℕ) → look-and-lts.Need-within-requires (past-part-reads.Asked, past-part-reads.Learnt, within-reads.Asked, within-reads.Learnt, look-below t, look.Post) (look-and-at t) look-and.Post
+look-and-within-requires : (t : ℕ) → look-and-lts.Need-within-requires (within-reads.Asked, within-reads.Learnt, look-below t, look.Post, past-part-reads.Asked, past-part-reads.Learnt) (look-and-at t) look-and.Post
 look-and-within-requires t c κs = search needs
 
--- src/provable.rt:428:9
-look-and-sub-look : (t : ℕ) → look-and-lts.Need-sub-look (past-part-reads.Asked, past-part-reads.Learnt, within-reads.Asked, within-reads.Learnt, look-below t, look.Post) (look-and-at t) look-and.Post
+look-and-sub-look : (t : ℕ) → look-and-lts.Need-sub-look (within-reads.Asked, within-reads.Learnt, look-below t, look.Post, past-part-reads.Asked, past-part-reads.Learnt) (look-and-at t) look-and.Post
 look-and-sub-look t c = search needs
 
--- src/provable.rt:419:9
-look-and-look-requires : (t : ℕ) → look-and-lts.Need-look-requires (past-part-reads.Asked, past-part-reads.Learnt, within-reads.Asked, within-reads.Learnt, look-below t, look.Post) (look-and-at t) look-and.Post
-look-and-look-requires t c κs = (omega (arith, c .before .before .before .before .before .before .before .before .before .before .before .pre .0, c .before .before .before .before .before .before .if1 .left), tt)
+look-and-look-requires : (t : ℕ) → look-and-lts.Need-look-requires (within-reads.Asked, within-reads.Learnt, look-below t, look.Post, past-part-reads.Asked, past-part-reads.Learnt) (look-and-at t) look-and.Post
+look-and-look-requires t c κs = (omega (arith, c .before .before .before .before .before .before .before .pre .0, c .before .before .if1 .left), tt)
 
--- src/provable.rt:430:9
-look-and-same-length : (t : ℕ) → look-and-lts.Need-same-length (past-part-reads.Asked, past-part-reads.Learnt, within-reads.Asked, within-reads.Learnt, look-below t, look.Post) (look-and-at t) look-and.Post
+look-and-same-length : (t : ℕ) → look-and-lts.Need-same-length (within-reads.Asked, within-reads.Learnt, look-below t, look.Post, past-part-reads.Asked, past-part-reads.Learnt) (look-and-at t) look-and.Post
 look-and-same-length t c = c .before .before .before .look .kept .1 .1 .1 .0
 
--- src/provable.rt:430:9
-look-and-returns-3 : (t : ℕ) → look-and-lts.Need-returns-3 (past-part-reads.Asked, past-part-reads.Learnt, within-reads.Asked, within-reads.Learnt, look-below t, look.Post) (look-and-at t) look-and.Post
-look-and-returns-3 t c = filling.both-first (c .before .before .before .before .before .before .before .before .before .before .before .before .before .before .before .args .height) (c .before .before .before .before .before .before .before .before .before .before .if1 .left) (c .before .before .before .before .within .ensures) (c .before .before .before .look .ensures) (not-true (c .before .before .before .look .result) (c .if2 .taken))
+look-and-returns-2 : (t : ℕ) → look-and-lts.Need-returns-2 (within-reads.Asked, within-reads.Learnt, look-below t, look.Post, past-part-reads.Asked, past-part-reads.Learnt) (look-and-at t) look-and.Post
+look-and-returns-2 t c = filling.both-first (c .before .before .before .before .before .before .before .before .before .before .before .args .height) (c .before .before .before .before .before .before .if1 .left) (c .before .before .before .before .within .ensures) (c .before .before .before .look .ensures) (not-true (c .before .before .before .look .result) (c .if2 .taken))
 
--- src/provable.rt:437:9
-look-and-within-requires-2 : (t : ℕ) → look-and-lts.Need-within-requires-2 (past-part-reads.Asked, past-part-reads.Learnt, within-reads.Asked, within-reads.Learnt, look-below t, look.Post) (look-and-at t) look-and.Post
+look-and-past-part-requires : (t : ℕ) → look-and-lts.Need-past-part-requires (within-reads.Asked, within-reads.Learnt, look-below t, look.Post, past-part-reads.Asked, past-part-reads.Learnt) (look-and-at t) look-and.Post
+look-and-past-part-requires t c κs = search needs
+
+look-and-enum-known-n : (t : ℕ) → look-and-lts.Need-enum-known-n (within-reads.Asked, within-reads.Learnt, look-below t, look.Post, past-part-reads.Asked, past-part-reads.Learnt) (look-and-at t) look-and.Post
+look-and-enum-known-n t c = search needs
+
+look-and-enum-told : (t : ℕ) → look-and-lts.Need-enum-told (within-reads.Asked, within-reads.Learnt, look-below t, look.Post, past-part-reads.Asked, past-part-reads.Learnt) (look-and-at t) look-and.Post
+look-and-enum-told t c = search needs
+
+look-and-same-length-2 : (t : ℕ) → look-and-lts.Need-same-length-2 (within-reads.Asked, within-reads.Learnt, look-below t, look.Post, past-part-reads.Asked, past-part-reads.Learnt) (look-and-at t) look-and.Post
+look-and-same-length-2 t c = c .before .before .before .before .before .before .look .kept .1 .1 .1 .0
+
+look-and-returns-3 : (t : ℕ) → look-and-lts.Need-returns-3 (within-reads.Asked, within-reads.Learnt, look-below t, look.Post, past-part-reads.Asked, past-part-reads.Learnt) (look-and-at t) look-and.Post
+look-and-returns-3 t c = filling.both-lost (c .before .before .before .before .before .before .before .before .before .before .before .before .before .before .args .height) (c .before .before .past-part .ensures) (c .enum-told .given .1)
+
+look-and-within-requires-2 : (t : ℕ) → look-and-lts.Need-within-requires-2 (within-reads.Asked, within-reads.Learnt, look-below t, look.Post, past-part-reads.Asked, past-part-reads.Learnt) (look-and-at t) look-and.Post
 look-and-within-requires-2 t c κs = search needs
 
--- src/provable.rt:441:9
-look-and-sub-look-2 : (t : ℕ) → look-and-lts.Need-sub-look-2 (past-part-reads.Asked, past-part-reads.Learnt, within-reads.Asked, within-reads.Learnt, look-below t, look.Post) (look-and-at t) look-and.Post
+look-and-sub-look-2 : (t : ℕ) → look-and-lts.Need-sub-look-2 (within-reads.Asked, within-reads.Learnt, look-below t, look.Post, past-part-reads.Asked, past-part-reads.Learnt) (look-and-at t) look-and.Post
 look-and-sub-look-2 t c = omega (arith, c .before .before .before .before .before .before .before .before .before .before .before .before .if1 .left)
 
--- src/provable.rt:432:5
-look-and-look-requires-2 : (t : ℕ) → look-and-lts.Need-look-requires-2 (past-part-reads.Asked, past-part-reads.Learnt, within-reads.Asked, within-reads.Learnt, look-below t, look.Post) (look-and-at t) look-and.Post
+look-and-look-requires-2 : (t : ℕ) → look-and-lts.Need-look-requires-2 (within-reads.Asked, within-reads.Learnt, look-below t, look.Post, past-part-reads.Asked, past-part-reads.Learnt) (look-and-at t) look-and.Post
 look-and-look-requires-2 t c κs = (omega (arith, c .before .before .before .before .before .before .before .before .before .before .before .before .before .before .before .before .before .pre .0, c .before .before .before .before .before .before .before .before .before .before .before .before .if1 .left), tt)
 
--- src/provable.rt:400:1
-look-and-same-length-2 : (t : ℕ) → look-and-lts.Need-same-length-2 (past-part-reads.Asked, past-part-reads.Learnt, within-reads.Asked, within-reads.Learnt, look-below t, look.Post) (look-and-at t) look-and.Post
-look-and-same-length-2 t c = c .before .before .look2 .kept .1 .1 .1 .0 ∙ c .before .before .before .before .before .before .before .before .look .kept .1 .1 .1 .0
+look-and-same-length-3 : (t : ℕ) → look-and-lts.Need-same-length-3 (within-reads.Asked, within-reads.Learnt, look-below t, look.Post, past-part-reads.Asked, past-part-reads.Learnt) (look-and-at t) look-and.Post
+look-and-same-length-3 t c = c .before .before .look2 .kept .1 .1 .1 .0 ∙ c .before .before .before .before .before .before .before .before .before .before .before .before .look .kept .1 .1 .1 .0
 
--- src/provable.rt:400:1
-look-and-returns-4 : (t : ℕ) → look-and-lts.Need-returns-4 (past-part-reads.Asked, past-part-reads.Learnt, within-reads.Asked, within-reads.Learnt, look-below t, look.Post) (look-and-at t) look-and.Post
-look-and-returns-4 t c = filling.both-second (c .before .before .before .before .before .before .before .before .before .before .before .before .before .before .before .before .before .before .before .before .args .height) (c .before .before .before .before .before .before .before .before .before .before .before .before .before .before .before .if1 .left) (c .before .before .before .before .before .before .before .before .before .within .ensures) (c .before .before .before .within2 .ensures) (c .before .before .before .before .before .before .before .before .before .before .before .before .before .before .past-part .ensures) (c .before .before .before .before .before .before .before .before .before .before .before .before .n .given .1) (c .before .before .before .before .before .before .before .before .look .ensures) (not-false (c .before .before .before .before .before .before .before .before .look .result) (c .before .before .before .before .before .if2 .left)) (c .before .before .before .before .before .before .before .before .look .kept .1 .1 .1 .0) (c .before .before .look2 .ensures)
+look-and-returns-4 : (t : ℕ) → look-and-lts.Need-returns-4 (within-reads.Asked, within-reads.Learnt, look-below t, look.Post, past-part-reads.Asked, past-part-reads.Learnt) (look-and-at t) look-and.Post
+look-and-returns-4 t c = filling.both-second (c .before .before .before .before .before .before .before .before .before .before .before .before .before .before .before .before .before .before .before .before .args .height) (c .before .before .before .before .before .before .before .before .before .before .before .before .before .before .before .if1 .left) (c .before .before .before .before .before .before .before .before .before .before .before .before .before .within .ensures) (c .before .before .before .within2 .ensures) (c .before .before .before .before .before .before .before .before .past-part .ensures) (c .before .before .before .before .before .before .n .given .1) (c .before .before .before .before .before .before .before .before .before .before .before .before .look .ensures) (not-false (c .before .before .before .before .before .before .before .before .before .before .before .before .look .result) (c .before .before .before .before .before .before .before .before .before .if2 .left)) (c .before .before .before .before .before .before .before .before .before .before .before .before .look .kept .1 .1 .1 .0) (c .before .before .look2 .ensures)
 
 -- src/provable.rt:172:9
 prove-all-returns : (t : ℕ) → prove-all-lts.Need-returns (push-reads.Asked, push-reads.Learnt, bound-reads.Asked, bound-reads.Learnt, prove-goal-below t, prove-goal.Post) (prove-all-at t) prove-all.Post
@@ -1617,26 +1597,27 @@ pub +ask+body+both+decide+each+fill+find-clause+fork+look+look-and+prove-all+pro
     (body-same-length t)
     (body-returns-2 t))
     (λ t. both-lts.spec (
-      past-part-reads.Asked,
-      past-part-reads.Learnt,
       within-reads.Asked,
       within-reads.Learnt,
       prove-goal-below t,
       prove-goal.Post,
+      past-part-reads.Asked,
+      past-part-reads.Learnt,
     )
     (both-at t)
     both.Post
-    (both-past-part-requires t)
-    (both-enum-known-n t)
-    (both-enum-told t)
-    (both-returns t)
     (both-within-requires t)
     (both-prove-goal-requires t)
     (both-same-length t)
+    (both-returns t)
+    (both-past-part-requires t)
+    (both-enum-known-n t)
+    (both-enum-told t)
+    (both-same-length-2 t)
     (both-returns-2 t)
     (both-within-requires-2 t)
     (both-prove-goal-requires-2 t)
-    (both-same-length-2 t)
+    (both-same-length-3 t)
     (both-returns-3 t))
     (λ t. decide-lts.spec (
       find-clause-below t,
@@ -1775,29 +1756,30 @@ pub +ask+body+both+decide+each+fill+find-clause+fork+look+look-and+prove-all+pro
     (look-same-length-2 t)
     (look-returns-2 t))
     (λ t. look-and-lts.spec (
-      past-part-reads.Asked,
-      past-part-reads.Learnt,
       within-reads.Asked,
       within-reads.Learnt,
       look-below t,
       look.Post,
+      past-part-reads.Asked,
+      past-part-reads.Learnt,
     )
     (look-and-at t)
     look-and.Post
     (look-and-returns t)
-    (look-and-past-part-requires t)
-    (look-and-enum-known-n t)
-    (look-and-enum-told t)
-    (look-and-returns-2 t)
     (look-and-within-requires t)
     (look-and-sub-look t)
     (look-and-look-requires t)
     (look-and-same-length t)
+    (look-and-returns-2 t)
+    (look-and-past-part-requires t)
+    (look-and-enum-known-n t)
+    (look-and-enum-told t)
+    (look-and-same-length-2 t)
     (look-and-returns-3 t)
     (look-and-within-requires-2 t)
     (look-and-sub-look-2 t)
     (look-and-look-requires-2 t)
-    (look-and-same-length-2 t)
+    (look-and-same-length-3 t)
     (look-and-returns-4 t))
     (λ t. prove-all-lts.spec (
       push-reads.Asked,
