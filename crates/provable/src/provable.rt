@@ -356,7 +356,7 @@ fn body<'a>(
     )
 }
 
-// The goals of a body whose variables are set, and of these, if variable v is asked for, those that hold it: whether each has a proof.
+// The goals of a body whose variables are set, and of these, if variable v is asked for, those that hold it: whether each has a proof. An atom is searched here, since its word is read.
 fn look<'a>(
     rules: &'a [u8],
     goal: &'a [u8],
@@ -372,6 +372,15 @@ fn look<'a>(
 {
     match word_there(rules, goal, terms, w.goal) {
         Word::And => look_and(rules, goal, terms, room, w, own, also, v, height),
+        Word::Atom => {
+            if !is_due(rules, goal, terms, room, w, own, also, v) {
+                return true;
+            }
+            if height == 0 {
+                return false;
+            }
+            prove_atom(rules, goal, terms, room, w, height - 1)
+        }
         _ => ask(rules, goal, terms, room, w, own, also, v, height),
     }
 }
@@ -451,7 +460,7 @@ fn is_due<'a>(
     }
 }
 
-// A goal that is no `and`: nothing is asked of it while it holds an unset variable, or if it was looked at before.
+// A goal that is neither an `and` nor an atom: nothing is asked of it while it holds an unset variable, or if it was looked at before.
 fn ask<'a>(
     rules: &'a [u8],
     goal: &'a [u8],

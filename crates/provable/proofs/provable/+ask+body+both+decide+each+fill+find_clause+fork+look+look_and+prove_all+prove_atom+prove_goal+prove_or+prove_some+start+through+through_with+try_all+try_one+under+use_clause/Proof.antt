@@ -719,40 +719,68 @@ fork-same-length-2 t c = search needs
 fork-returns-3 : (t : ℕ) → fork-lts.Need-returns-3 (past-part-reads.Asked, past-part-reads.Learnt, further-reads.Asked, further-reads.Learnt, through-below t, through.Post) (fork-at t) fork.Post
 fork-returns-3 t c = passing.and-second (c .before .before .before .before .before .before .before .before .before .before .before .before .before .before .before .before .before .before .before .args .nest) (c .before .before .before .before .before .before .before .before .before .further .ensures) (c .before .before .before .further2 .ensures) (c .before .before .before .before .before .before .before .before .before .before .before .before .before .before .past-part .ensures) (c .before .before .before .before .before .before .before .before .before .before .before .before .n .given .1) (c .before .before .before .before .before .before .before .before .through .ensures .0) (c .before .before .before .before .before .if1 .left) (c .before .before .before .before .before .before .before .before .through .kept .1 .1 .1 .0) (c .before .before .through2 .ensures .0)
 
--- src/provable.rt:393:11
-look-word-there-requires : (t : ℕ) → look-lts.Need-word-there-requires (word-there-reads.Asked, word-there-reads.Learnt, look-and-below t, look-and.Post, ask-below t, ask.Post) (look-at t) look.Post
+look-word-there-requires : (t : ℕ) → look-lts.Need-word-there-requires (word-there-reads.Asked, word-there-reads.Learnt, look-and-below t, look-and.Post, is-due-reads.Asked, is-due-reads.Learnt, prove-atom-below t, prove-atom.Post, ask-below t, ask.Post) (look-at t) look.Post
 look-word-there-requires t c κs = search needs
 
--- src/provable.rt:394:51
-look-enum-told : (t : ℕ) → look-lts.Need-enum-told (word-there-reads.Asked, word-there-reads.Learnt, look-and-below t, look-and.Post, ask-below t, ask.Post) (look-at t) look.Post
+look-enum-told : (t : ℕ) → look-lts.Need-enum-told (word-there-reads.Asked, word-there-reads.Learnt, look-and-below t, look-and.Post, is-due-reads.Asked, is-due-reads.Learnt, prove-atom-below t, prove-atom.Post, ask-below t, ask.Post) (look-at t) look.Post
 look-enum-told t c = search needs
 
--- src/provable.rt:394:22
-look-look-and-requires : (t : ℕ) → look-lts.Need-look-and-requires (word-there-reads.Asked, word-there-reads.Learnt, look-and-below t, look-and.Post, ask-below t, ask.Post) (look-at t) look.Post
+look-look-and-requires : (t : ℕ) → look-lts.Need-look-and-requires (word-there-reads.Asked, word-there-reads.Learnt, look-and-below t, look-and.Post, is-due-reads.Asked, is-due-reads.Learnt, prove-atom-below t, prove-atom.Post, ask-below t, ask.Post) (look-at t) look.Post
 look-look-and-requires t c κs = (omega (arith, c .before .before .before .before .before .before .before .before .pre .0), tt)
 
--- src/provable.rt:395:14
-look-ask-requires : (t : ℕ) → look-lts.Need-ask-requires (word-there-reads.Asked, word-there-reads.Learnt, look-and-below t, look-and.Post, ask-below t, ask.Post) (look-at t) look.Post
+look-enum-told-2 : (t : ℕ) → look-lts.Need-enum-told-2 (word-there-reads.Asked, word-there-reads.Learnt, look-and-below t, look-and.Post, is-due-reads.Asked, is-due-reads.Learnt, prove-atom-below t, prove-atom.Post, ask-below t, ask.Post) (look-at t) look.Post
+look-enum-told-2 t c = search needs
+
+look-is-due-requires : (t : ℕ) → look-lts.Need-is-due-requires (word-there-reads.Asked, word-there-reads.Learnt, look-and-below t, look-and.Post, is-due-reads.Asked, is-due-reads.Learnt, prove-atom-below t, prove-atom.Post, ask-below t, ask.Post) (look-at t) look.Post
+look-is-due-requires t c κs = search needs
+
+look-same-length : (t : ℕ) → look-lts.Need-same-length (word-there-reads.Asked, word-there-reads.Learnt, look-and-below t, look-and.Post, is-due-reads.Asked, is-due-reads.Learnt, prove-atom-below t, prove-atom.Post, ask-below t, ask.Post) (look-at t) look.Post
+look-same-length t c = search needs
+
+look-returns : (t : ℕ) → look-lts.Need-returns (word-there-reads.Asked, word-there-reads.Learnt, look-and-below t, look-and.Post, is-due-reads.Asked, is-due-reads.Learnt, prove-atom-below t, prove-atom.Post, ask-below t, ask.Post) (look-at t) look.Post
+unfolding rank
+look-returns t c = let k = c .before .before .before .before .before .word-there .result in
+    filling.look-other k (c .before .before .before .before .before .word-there .ensures) (filling.other-word k W.And (3 ∷ []) (tag-rank k) (c .before .before .before .before .match .keys2) refl) (filling.one-waits (c .before .before .before .before .before .before .before .before .before .before .args .height) (c .before .is-due .ensures) (not-true (c .before .is-due .result) (c .if1 .taken)))
+
+look-same-length-2 : (t : ℕ) → look-lts.Need-same-length-2 (word-there-reads.Asked, word-there-reads.Learnt, look-and-below t, look-and.Post, is-due-reads.Asked, is-due-reads.Learnt, prove-atom-below t, prove-atom.Post, ask-below t, ask.Post) (look-at t) look.Post
+look-same-length-2 t c = search needs
+
+look-returns-2 : (t : ℕ) → look-lts.Need-returns-2 (word-there-reads.Asked, word-there-reads.Learnt, look-and-below t, look-and.Post, is-due-reads.Asked, is-due-reads.Learnt, prove-atom-below t, prove-atom.Post, ask-below t, ask.Post) (look-at t) look.Post
+unfolding rank
+look-returns-2 t c = let k = c .before .before .before .before .before .before .word-there .result in
+    filling.look-other k (c .before .before .before .before .before .before .word-there .ensures) (filling.other-word k W.And (3 ∷ []) (tag-rank k) (c .before .before .before .before .before .match .keys2) refl) (filling.one-asked (c .before .before .before .before .before .before .before .before .before .before .before .args .height) (c .before .before .is-due .ensures) (not-false (c .before .before .is-due .result) (c .before .if1 .left)) (laws.no-height (c .before .before .before .before .before .before .before .before .before .before .before .args .height) (c .if2 .taken)))
+
+look-sub-prove-atom : (t : ℕ) → look-lts.Need-sub-prove-atom (word-there-reads.Asked, word-there-reads.Learnt, look-and-below t, look-and.Post, is-due-reads.Asked, is-due-reads.Learnt, prove-atom-below t, prove-atom.Post, ask-below t, ask.Post) (look-at t) look.Post
+look-sub-prove-atom t c = search needs
+
+look-prove-atom-requires : (t : ℕ) → look-lts.Need-prove-atom-requires (word-there-reads.Asked, word-there-reads.Learnt, look-and-below t, look-and.Post, is-due-reads.Asked, is-due-reads.Learnt, prove-atom-below t, prove-atom.Post, ask-below t, ask.Post) (look-at t) look.Post
+look-prove-atom-requires t c κs = (omega (arith, c .before .before .before .before .before .before .before .before .before .before .before .before .pre .0, c .before .if2 .left), tt)
+
+look-ask-requires : (t : ℕ) → look-lts.Need-ask-requires (word-there-reads.Asked, word-there-reads.Learnt, look-and-below t, look-and.Post, is-due-reads.Asked, is-due-reads.Learnt, prove-atom-below t, prove-atom.Post, ask-below t, ask.Post) (look-at t) look.Post
 look-ask-requires t c κs = (omega (arith, c .before .before .before .before .before .before .before .pre .0), tt)
 
--- src/provable.rt:380:1
-look-same-length : (t : ℕ) → look-lts.Need-same-length (word-there-reads.Asked, word-there-reads.Learnt, look-and-below t, look-and.Post, ask-below t, ask.Post) (look-at t) look.Post
-look-same-length t c = c .before .before .look-and .kept .1 .1 .1 .0
+look-same-length-3 : (t : ℕ) → look-lts.Need-same-length-3 (word-there-reads.Asked, word-there-reads.Learnt, look-and-below t, look-and.Post, is-due-reads.Asked, is-due-reads.Learnt, prove-atom-below t, prove-atom.Post, ask-below t, ask.Post) (look-at t) look.Post
+look-same-length-3 t c = c .before .before .look-and .kept .1 .1 .1 .0
 
--- src/provable.rt:380:1
-look-returns : (t : ℕ) → look-lts.Need-returns (word-there-reads.Asked, word-there-reads.Learnt, look-and-below t, look-and.Post, ask-below t, ask.Post) (look-at t) look.Post
-look-returns t c = let k = c .before .before .before .before .before .before .word-there .result in
+look-returns-3 : (t : ℕ) → look-lts.Need-returns-3 (word-there-reads.Asked, word-there-reads.Learnt, look-and-below t, look-and.Post, is-due-reads.Asked, is-due-reads.Learnt, prove-atom-below t, prove-atom.Post, ask-below t, ask.Post) (look-at t) look.Post
+look-returns-3 t c = let k = c .before .before .before .before .before .before .word-there .result in
     filling.look-and k (c .before .before .before .before .before .before .word-there .ensures) (c .before .before .before .before .enum-told .given .1) (c .before .before .look-and .ensures)
 
--- src/provable.rt:380:1
-look-same-length-2 : (t : ℕ) → look-lts.Need-same-length-2 (word-there-reads.Asked, word-there-reads.Learnt, look-and-below t, look-and.Post, ask-below t, ask.Post) (look-at t) look.Post
-look-same-length-2 t c = c .before .before .ask .kept .1 .1 .1 .0
+look-same-length-4 : (t : ℕ) → look-lts.Need-same-length-4 (word-there-reads.Asked, word-there-reads.Learnt, look-and-below t, look-and.Post, is-due-reads.Asked, is-due-reads.Learnt, prove-atom-below t, prove-atom.Post, ask-below t, ask.Post) (look-at t) look.Post
+look-same-length-4 t c = c .before .before .prove-atom .kept .1 .1 .1 .0
 
--- src/provable.rt:380:1
-look-returns-2 : (t : ℕ) → look-lts.Need-returns-2 (word-there-reads.Asked, word-there-reads.Learnt, look-and-below t, look-and.Post, ask-below t, ask.Post) (look-at t) look.Post
+look-returns-4 : (t : ℕ) → look-lts.Need-returns-4 (word-there-reads.Asked, word-there-reads.Learnt, look-and-below t, look-and.Post, is-due-reads.Asked, is-due-reads.Learnt, prove-atom-below t, prove-atom.Post, ask-below t, ask.Post) (look-at t) look.Post
 unfolding rank
-look-returns-2 t c = let k = c .before .before .before .before .before .word-there .result in
-    filling.look-other k (c .before .before .before .before .before .word-there .ensures) (filling.other-word k W.And (0 ∷ 1 ∷ 2 ∷ 3 ∷ 4 ∷ 6 ∷ 7 ∷ 8 ∷ 9 ∷ 10 ∷ 11 ∷ 12 ∷ 13 ∷ 14 ∷ 15 ∷ []) (tag-rank k) (c .before .before .before .before .match .keys2) refl) (c .before .before .ask .ensures)
+look-returns-4 t c = let k = c .before .before .before .before .before .before .before .before .before .before .word-there .result in
+    filling.look-other k (c .before .before .before .before .before .before .before .before .before .before .word-there .ensures) (filling.other-word k W.And (3 ∷ []) (tag-rank k) (c .before .before .before .before .before .before .before .before .before .match .keys2) refl) (filling.one-asked (c .before .before .before .before .before .before .before .before .before .before .before .before .before .before .before .args .height) (c .before .before .before .before .before .before .is-due .ensures) (not-false (c .before .before .before .before .before .before .is-due .result) (c .before .before .before .before .before .if1 .left)) (laws.by-word (c .before .before .before .before .before .before .before .before .before .before .before .before .before .before .before .args .height) W.Atom k (c .before .before .before .before .if2 .left) (c .before .before .before .before .before .before .before .before .before .before .word-there .ensures) (c .before .before .before .before .before .before .before .before .enum-told2 .given .1) (c .before .before .prove-atom .ensures)))
+
+look-same-length-5 : (t : ℕ) → look-lts.Need-same-length-5 (word-there-reads.Asked, word-there-reads.Learnt, look-and-below t, look-and.Post, is-due-reads.Asked, is-due-reads.Learnt, prove-atom-below t, prove-atom.Post, ask-below t, ask.Post) (look-at t) look.Post
+look-same-length-5 t c = c .before .before .ask .kept .1 .1 .1 .0
+
+look-returns-5 : (t : ℕ) → look-lts.Need-returns-5 (word-there-reads.Asked, word-there-reads.Learnt, look-and-below t, look-and.Post, is-due-reads.Asked, is-due-reads.Learnt, prove-atom-below t, prove-atom.Post, ask-below t, ask.Post) (look-at t) look.Post
+unfolding rank
+look-returns-5 t c = let k = c .before .before .before .before .before .word-there .result in
+    filling.look-other k (c .before .before .before .before .before .word-there .ensures) (filling.other-word k W.And (0 ∷ 1 ∷ 2 ∷ 4 ∷ 6 ∷ 7 ∷ 8 ∷ 9 ∷ 10 ∷ 11 ∷ 12 ∷ 13 ∷ 14 ∷ 15 ∷ []) (tag-rank k) (c .before .before .before .before .match .keys3) refl) (c .before .before .ask .ensures)
 
 -- src/provable.rt:414:9
 look-and-returns : (t : ℕ) → look-and-lts.Need-returns (within-reads.Asked, within-reads.Learnt, look-below t, look.Post, past-part-reads.Asked, past-part-reads.Learnt) (look-and-at t) look-and.Post
@@ -1742,6 +1770,10 @@ pub +ask+body+both+decide+each+fill+find-clause+fork+look+look-and+prove-all+pro
       word-there-reads.Learnt,
       look-and-below t,
       look-and.Post,
+      is-due-reads.Asked,
+      is-due-reads.Learnt,
+      prove-atom-below t,
+      prove-atom.Post,
       ask-below t,
       ask.Post,
     )
@@ -1750,11 +1782,21 @@ pub +ask+body+both+decide+each+fill+find-clause+fork+look+look-and+prove-all+pro
     (look-word-there-requires t)
     (look-enum-told t)
     (look-look-and-requires t)
-    (look-ask-requires t)
+    (look-enum-told-2 t)
+    (look-is-due-requires t)
     (look-same-length t)
     (look-returns t)
     (look-same-length-2 t)
-    (look-returns-2 t))
+    (look-returns-2 t)
+    (look-sub-prove-atom t)
+    (look-prove-atom-requires t)
+    (look-ask-requires t)
+    (look-same-length-3 t)
+    (look-returns-3 t)
+    (look-same-length-4 t)
+    (look-returns-4 t)
+    (look-same-length-5 t)
+    (look-returns-5 t))
     (λ t. look-and-lts.spec (
       within-reads.Asked,
       within-reads.Learnt,
