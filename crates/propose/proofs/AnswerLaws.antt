@@ -28,7 +28,7 @@ use Rattle.drawing.specs.declared.Drawn.{Drawn}
 use Rattle.proposal.specs.declared.Proposal.{Proposal}
 use Rattle.proposal.specs.declared.Proposal.the-variants as P
 use Rattle.proposal.specs.Proposed.{mostHeight, Comes, firstStrip, unlessLong, ofFirst, ofBooks, comesTo, proposal, proposalOf, over, left, bufferAfter, paper, Proposes}
-use Rattle.propose.specs.Parts.{Setting, Telling, Measuring, Filling, Says, Searching, Answering}
+use Rattle.propose.specs.Parts.{Setting, Telling, Measuring, Handing, Filling, Says, Searching, Answering}
 use Rattle.proposal.proofs.MeaningLaws.{unless-fits, unless-long, on-room, on-height, on-refused, once-low}
 use Rattle.proposal.proofs.WrittenLaws.{front-filled}
 
@@ -69,23 +69,33 @@ copied w z z′ d d′ n next e k p l m =
     let front : take n z′ ≡ w = ap (λ (y : List ℕ). take n y) e ∙ ap (λ (i : ℕ). take i (over w z)) k ∙ front-filled w z in
     puts-as front p .bytes ∙ laid-over w d l m
 
--- what is copied lies inside a scratch buffer that has as many bytes as a strip may have
-pub front-inside : (z : List ℕ) (size most n : ℕ) → length z ≡ mostBytes → most ≡ min size mostBytes → n ≤ most → n ≡ length (take n z)
-front-inside z size most n e w l = sym (length-take-le n z (omega arith))
+-- what is copied lies inside the scratch buffer
+pub front-inside : (z : List ℕ) (n : ℕ) → n ≤ length z → n ≡ length (take n z)
+front-inside z n l = sym (length-take-le n z l)
 
--- the first strip drawn into `z`, which has as many bytes as a strip may have: copied only if it is not too long
-module _ (h : ℕ) (rs gs ts room after z z′ d : List ℕ) (m : Drawn) (v : Measuring h rs gs ts room after z z′ m) (most : ℕ) (w : most ≡ min (length d) mostBytes) where
-  pub too-long : (q : Proposal) → most < m .at → q ≡ proposal (Comes.refuses R.Buffer F.None) → Filling h rs gs ts room d d q
-  too-long q n a b S s e =
+-- the first strip drawn into `z`: copied only if it is not too long
+module _ (z′ d : List ℕ) (m : Drawn) (most : ℕ) (w : most ≡ min (length d) mostBytes) where
+  pub too-long : (q : Proposal) → most < m .at → q ≡ proposal (Comes.refuses R.Buffer F.None) → Handing z′ m d d q
+  too-long q n a h rs gs ts room after z same v b S s e =
       let y = v b S s e in
       refusing (unlessLong (length d) S) R.Buffer F.None d q (unless-long (length d) S (counted-long (length d) (length (written S)) (m .at) (y .long) (omega arith))) a
 
-  pub strip-copied : (d′ : List ℕ) (next : ℕ) → m .at ≤ most → length z ≡ mostBytes → Puts 0 (take (m .at) z′) d d′ next → Filling h rs gs ts room d d′ (P.Found (m .height) (m .nodes) (m .at))
-  strip-copied d′ next n l p b S s e =
+  pub strip-copied : (d′ : List ℕ) (next : ℕ) → m .at ≤ most → m .at ≤ length z′ → Puts 0 (take (m .at) z′) d d′ next → Handing z′ m d d′ (P.Found (m .height) (m .nodes) (m .at))
+  strip-copied d′ next n l p h rs gs ts room after z same v b S s e =
       let y = v b S s e in
       let (x, c) = counted-short (length d) (length (written S)) (m .at) (y .long) (omega arith) in
       finding (unlessLong (length d) S) S d d′ m (unless-fits (length d) S x) (y .high) (y .many) c
       (copied (written S) z z′ d d′ (m .at) next (y .bytes (omega arith) (omega arith)) c p (omega arith) (omega arith))
+
+-- a strip that is longer than any may be, whatever the buffer; and one that is drawn once more, since the packet stays set out
+module _ (h : ℕ) (rs gs ts room after z z′ d : List ℕ) (m : Drawn) (v : Measuring h rs gs ts room after z z′ m) where
+  pub longer-than-any : (q : Proposal) → mostBytes < m .at → q ≡ proposal (Comes.refuses R.Buffer F.None) → Filling h rs gs ts room d d q
+  longer-than-any q n a b S s e =
+      let y = v b S s e in
+      refusing (unlessLong (length d) S) R.Buffer F.None d q (unless-long (length d) S (counted-long (length d) (length (written S)) (m .at) (y .long) (omega arith))) a
+
+  pub drawn-again : (d′ : List ℕ) (q : Proposal) → Filling h rs gs ts after d d′ q → Filling h rs gs ts room d d′ q
+  drawn-again d′ q f b S s e = f b S (v b S s e .stays) e
 
 -- the search of a packet that is read: in `room₁` it is set out, `room₂` is left by the yes or no
 module _ (h : ℕ) (rs gs ts room room₁ room₂ d : List ℕ) (r : Bool) (t : Setting rs ts room room₁) (p : Telling h rs gs ts room₁ room₂ r) where

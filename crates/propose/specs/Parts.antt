@@ -60,6 +60,10 @@ pub record Says (x : Comes) (d d′ : List ℕ) (r : Proposal) : Type 0 where
 abbrev pub Filling : ℕ → List ℕ → List ℕ → List ℕ → List ℕ → List ℕ → List ℕ → Proposal → Type 0
 Filling h rs gs ts room d d′ r = (b : Books) (S : Strip) → SetOut h rs gs ts room b → firstStrip h b ≡ some S → Says (unlessLong (length d) S) d d′ r
 
+-- the same of a strip that is drawn whole in the scratch buffer `z′`, wherever it was drawn from
+abbrev pub Handing : List ℕ → Drawn → List ℕ → List ℕ → Proposal → Type 0
+Handing z′ m d d′ r = (h : ℕ) (rs gs ts room after z : List ℕ) → length z′ ≡ length z → Measuring h rs gs ts room after z z′ m → Filling h rs gs ts room d d′ r
+
 -- a packet that is read, with a height that may be asked for and room enough
 abbrev pub Searching : ℕ → List ℕ → List ℕ → List ℕ → List ℕ → List ℕ → List ℕ → Proposal → Type 0
 Searching h rs gs ts room d d′ r =

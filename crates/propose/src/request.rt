@@ -1,4 +1,4 @@
-// A search in three parts, once the room is set out: whether there is a strip, the strip drawn once with its measures, and its bytes copied. The buffer is touched by the last of them alone,
+// A search in three parts, once the room is set out: whether there is a strip, the strip drawn with its measures, and its bytes copied. The buffer is touched by the last of them alone,
 // when the whole answer is known (document 01, "Which strip the search writes", "What comes back").
 use drawing::Drawn;
 use keys::fill_keys;
@@ -16,11 +16,13 @@ use start::first_place;
 use table::empty_all;
 use writer::write_goal;
 ghost use mathlib.Core.Path.{_≡_};
-ghost use Prim.Native.Nat.{min};
+ghost use Prim.Native.Nat.{min, _≤_};
+ghost use lib.ListN.{length};
 ghost use Rattle.packet.specs.File.{mostBytes};
 ghost use Rattle.packet.specs.declared.File.the-variants as F;
+ghost use Rattle.packet.specs.declared.Reason.the-variants as R;
 ghost use Rattle.proposal.specs.Proposed.{Comes, proposal};
-ghost use Rattle.propose.specs.Parts.{Setting, Telling, Measuring, Filling, Searching, Answering};
+ghost use Rattle.propose.specs.Parts.{Setting, Telling, Measuring, Handing, Filling, Searching, Answering};
 
 // The room as a search needs it: the tables of rules and candidates, their numbers, the heads of rules and their arguments, and an empty table of atoms.
 fn set_out<'a>(rules: &'a [u8], terms: &'a [u8], room: &mut [u32])
@@ -78,9 +80,31 @@ pub(crate) fn refused(reason: Reason) -> Proposal
     }
 }
 
-// The first strip, where there is one: drawn once, and its bytes copied if the buffer has room for them. The scratch buffer has as many bytes as a strip may have, and is
-// made here, so that a search without a proof does not pay for it.
-fn write<'a>(
+// The answer where a strip is longer than the buffer, or than any may be.
+fn too_long() -> Proposal
+    ensures { λ r. ⌜ r ≡ proposal (Comes.refuses R.Buffer F.None) ⌝ }
+{
+    refused(Reason::Buffer)
+}
+
+// A strip that is drawn whole, in the front of a scratch buffer: copied if the buffer has room for it.
+fn hand_over(strip: &mut [u8], scratch: &[u8], first: Drawn) -> Proposal
+    requires { ⌜ first .at ≤ length (now scratch) ⌝ }
+    ensures { λ r. ⌜ Handing (now (scratch .entry)) first (now (strip .entry)) (now (strip .exit)) r ⌝ }
+{
+    if longest(strip.len()) < first.at {
+        return too_long();
+    }
+    put(strip, 0, &scratch[..first.at]);
+    Proposal::Found {
+        height: first.height,
+        nodes: first.nodes,
+        length: first.at,
+    }
+}
+
+// The first strip, where there is one, drawn with as many bytes as a strip may have.
+fn write_long<'a>(
     rules: &'a [u8],
     goal: &'a [u8],
     terms: &'a [u8],
@@ -92,15 +116,30 @@ fn write<'a>(
 {
     let mut scratch = [0u8; 16384];
     let first = measure(rules, goal, terms, height, &mut scratch, room);
-    if longest(strip.len()) < first.at {
-        return refused(Reason::Buffer);
+    if 16384 < first.at {
+        return too_long();
     }
-    put(strip, 0, &scratch[..first.at]);
-    Proposal::Found {
-        height: first.height,
-        nodes: first.nodes,
-        length: first.at,
+    hand_over(strip, &scratch, first)
+}
+
+// The first strip, where there is one. Nearly every strip is short, and a short scratch buffer costs less to make; a longer strip is drawn once more. The buffers are made here, so
+// that a search without a proof does not pay for them.
+fn write<'a>(
+    rules: &'a [u8],
+    goal: &'a [u8],
+    terms: &'a [u8],
+    height: usize,
+    strip: &mut [u8],
+    room: &mut [u32],
+) -> Proposal
+    ensures { λ r. ⌜ Filling height (now (rules .entry)) (now (goal .entry)) (now (terms .entry)) (now (room .entry)) (now (strip .entry)) (now (strip .exit)) r ⌝ }
+{
+    let mut scratch = [0u8; 1024];
+    let first = measure(rules, goal, terms, height, &mut scratch, room);
+    if 1024 < first.at {
+        return write_long(rules, goal, terms, height, strip, room);
     }
+    hand_over(strip, &scratch, first)
 }
 
 // The search of a packet that is read.

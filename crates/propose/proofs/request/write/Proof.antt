@@ -1,8 +1,5 @@
--- `write` of src/request.rt: the first strip drawn once, and copied where it is not too long.
-use Prim.Native.Nat.{ℕ}
-use mathlib.Core.Path.{_∙_}
-use lib.ListN.{length, length-replicate}
-use Rattle.propose.proofs.AnswerLaws.{too-long, front-inside, strip-copied}
+-- `write` of src/request.rt: the first strip drawn with a short scratch buffer, and once more where it is longer.
+use Rattle.propose.proofs.AnswerLaws.{drawn-again}
 use borrow.Author.Needs.{needs}
 use Rattle.propose.proofs.request.write.Statement.{statement}
 use Rattle.propose.proofs.request.write.Tie as tie
@@ -13,47 +10,38 @@ slice-aggregate-measure c = search needs
 measure-requires : tie.Need-measure-requires
 measure-requires c κs = search needs
 
-longest-requires : tie.Need-longest-requires
-longest-requires c κs = search needs
-
-refused-requires : tie.Need-refused-requires
-refused-requires c κs = search needs
+write-long-requires : tie.Need-write-long-requires
+write-long-requires c κs = search needs
 
 same-length : tie.Need-same-length
 same-length c = search needs
 
-returns : tie.Need-returns
-returns c =
-    let x = c .before .before .before .before .before .before .before .before .before .before .before .before .before .before .before .args in
-    let m = c .before .before .before .before .before .before .before .measure in
-    let l = c .before .before .before .longest in
-    too-long (x .height) (x .rules .now) (x .goal .now) (x .terms .now) (x .room .now) (m .last .1 .1 .1 .1 .1 .0) _ (m .last .1 .1 .1 .1 .0) (x .strip .now) (m .result) (m .ensures) (l .result) (l .ensures) (c .refused .result) (c .before .if1 .taken) (c .refused .ensures)
-
-array-share-prefix-scratch : tie.Need-array-share-prefix-scratch
-array-share-prefix-scratch c = search needs
-
-slice-aggregate-put : tie.Need-slice-aggregate-put
-slice-aggregate-put c =
-    let m = c .before .before .before .before .before .before .before .before .measure in
-    let l = c .before .before .before .before .longest in
-    front-inside (m .last .1 .1 .1 .1 .0) (length (c .before .before .before .before .before .before .before .before .before .before .before .before .before .before .before .before .args .strip .now)) (l .result) (m .result .at) (m .kept .1 .1 .1 .1 .0 ∙ length-replicate {A = ℕ} 16384 0) (l .ensures) (c .before .before .if1 .left)
-
-put-requires : tie.Need-put-requires
-put-requires c κs = search needs
-
 same-length-2 : tie.Need-same-length-2
 same-length-2 c = search needs
+
+returns : tie.Need-returns
+returns c =
+    let x = c .before .before .before .before .before .before .before .before .before .before .before .before .before .before .before .before .before .before .before .before .args in
+    let m = c .before .before .before .before .before .before .before .before .before .before .before .before .measure in
+    drawn-again (x .height) (x .rules .now) (x .goal .now) (x .terms .now) (x .room .now) (m .last .1 .1 .1 .1 .1 .0) _ (m .last .1 .1 .1 .1 .0) (x .strip .now) (m .result) (m .ensures) (c .before .before .before .before .write-long .last .1 .1 .1 .1 .0) (c .before .before .before .before .write-long .result) (c .before .before .before .before .write-long .ensures)
+
+slice-aggregate-hand-over : tie.Need-slice-aggregate-hand-over
+slice-aggregate-hand-over c = search needs
+
+hand-over-requires : tie.Need-hand-over-requires
+hand-over-requires c κs = search needs
 
 same-length-3 : tie.Need-same-length-3
 same-length-3 c = search needs
 
+same-length-4 : tie.Need-same-length-4
+same-length-4 c = search needs
+
 returns-2 : tie.Need-returns-2
 returns-2 c =
-    let x = c .before .before .before .before .before .before .before .before .before .before .before .before .before .before .before .before .before .before .before .args in
-    let m = c .before .before .before .before .before .before .before .before .before .before .before .measure in
-    let l = c .before .before .before .before .before .before .before .longest in
-    let p = c .before .before .put in
-    strip-copied (x .height) (x .rules .now) (x .goal .now) (x .terms .now) (x .room .now) (m .last .1 .1 .1 .1 .1 .0) _ (m .last .1 .1 .1 .1 .0) (x .strip .now) (m .result) (m .ensures) (l .result) (l .ensures) (p .last .0) (p .result) (c .before .before .before .before .before .if1 .left) (length-replicate {A = ℕ} 16384 0) (p .ensures)
+    let x = c .before .before .before .before .before .before .before .before .before .before .before .before .before .before .before .before .before .before .args in
+    let m = c .before .before .before .before .before .before .before .before .before .before .measure in
+    c .before .before .hand-over .ensures (x .height) (x .rules .now) (x .goal .now) (x .terms .now) (x .room .now) (m .last .1 .1 .1 .1 .1 .0) _ (m .kept .1 .1 .1 .1 .0) (m .ensures)
 
 pub write-spec : {M : Type 1} → statement M
 write-spec =
@@ -61,13 +49,12 @@ write-spec =
     (tie.spec
     slice-aggregate-measure
     measure-requires
-    longest-requires
-    refused-requires
+    write-long-requires
     same-length
-    returns
-    array-share-prefix-scratch
-    slice-aggregate-put
-    put-requires
     same-length-2
+    returns
+    slice-aggregate-hand-over
+    hand-over-requires
     same-length-3
+    same-length-4
     returns-2)
