@@ -27,7 +27,6 @@ use Rattle.room.specs.Layout.{rulesWord, candidatesWord}
 use Rattle.room.specs.Where.{Files, plus, within}
 use Rattle.room.specs.declared.Where.{Where}
 use Rattle.equal.proofs.AtomLaws.{atom-at}
-use Rattle.room.proofs.FrameLaws.{bound-means}
 use Rattle.room.proofs.WhereLaws.{file-small}
 use Rattle.mentions.specs.Open.{isOpen, Becomes}
 use Rattle.heads.specs.Heads.{goalWord}
@@ -50,7 +49,7 @@ use Rattle.proving.proofs.ReadyLaws.{ready-part, ready-kept}
 use Rattle.proving.proofs.ProvingLaws.{bytesAt, both-of}
 use Rattle.proving.proofs.HeadlessLaws.{no-head-passes-not}
 use Rattle.proving.proofs.AlikeLaws.{passes-alike}
-use Rattle.proving.proofs.CompletesLaws.{candidate-set, open-below, open-here, open-there, set-here, value-there, set-alike, may-too, completes-becomes, completes-less, completes-swap}
+use Rattle.proving.proofs.CompletesLaws.{open-below, set-open, becomes-less, becomes-value, set-alike, may-too, completes-becomes, completes-less, completes-swap}
 use Rattle.proving.proofs.FillingLaws.{and-none, body-lacks}
 use Rattle.proving.proofs.PlainLaws.{filling-body, frame-ends}
 use Rattle.proving.proofs.SettleLaws.{no-stand-in}
@@ -183,13 +182,8 @@ module _ {f : Files} {room : List ℕ} {w : Where} {own v left : ℕ} where
 given : (us : List Term) (o : List Plain) (m v i : ℕ) (fr es : Bindings) → isOpen m fr v ≡ true → (i ≡ 2147483647 → ⊥) → Completes us o m (setTo v (Candidate i) fr) es → Becomes us m fr es × (valueOf us es v ≡ meant us (Candidate i))
 given us o m v i fr es y n k =
     let b = completes-becomes us o m (setTo v (Candidate i) fr) es k in
-    let long = open-below m fr v y .1 in (
-      λ j h. b j (open-there m v j (Candidate i) fr (other j h) ∙ h) ∙ value-there us v j (Candidate i) fr (other j h),
-      b v (open-here m v (Candidate i) fr long (candidate-set i n)) ∙ (sym (bound-means us (setTo v (Candidate i) fr) v) ∙ ap (meant us) (set-here v (Candidate i) fr long)),
-    )
-  where
-    other : (j : ℕ) → isOpen m fr j ≡ false → j ≡ v → ⊥
-    other j h e = false≢true (sym h ∙ (ap (isOpen m fr) e ∙ y))
+    let (own, long) = open-below m fr v y in
+    (subst (λ (x : Bindings). Becomes us m x es) (set-open m fr v y) (becomes-less us m v (Candidate i) fr es own long b), becomes-value us m v i fr es long n b)
 
 module _ {f : Files} {room : List ℕ} {w : Where} {p : Parts} {left : ℕ} (v : ℕ) {marks : List ℕ} where
   pub body-nothing : NarrowsBody f room room w p v left marks false

@@ -19,6 +19,7 @@ use places::supposes;
 use places::within;
 use places::word_there;
 use proving::Chosen;
+use proving::Going;
 use proving::Parts;
 use proving::body_place;
 use proving::candidates;
@@ -317,13 +318,13 @@ fn start<'a>(
     ensures { λ r. ⌜ PassingParts (filesOf (now (rules .entry)) (now (goal .entry)) (now (terms .entry))) (now (room .entry)) (now (room .exit)) w p left r ⌝ }
 {
     unset_all(room, p.head, p.own);
-    if !meet(rules, goal, terms, room, w, p) {
+    let Going::On(q) = meet(rules, goal, terms, room, w, p) else {
+        return false;
+    };
+    if !body(rules, goal, terms, room, w, q, false, 0, left) {
         return false;
     }
-    if !body(rules, goal, terms, room, w, p, false, 0, left) {
-        return false;
-    }
-    fill(rules, goal, terms, room, w, p, p.own, left)
+    fill(rules, goal, terms, room, w, q, p.own, left)
 }
 
 // The goals of the body, if there is one.

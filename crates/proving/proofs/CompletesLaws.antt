@@ -119,6 +119,10 @@ open-there own v i d bs n = open-same own (setTo v d bs) bs i (set-there v i d b
 pub open-here : (own v : ℕ) (d : Binding) (bs : Bindings) → v < length bs → isUnset d ≡ false → isOpen own (setTo v d bs) v ≡ false
 open-here own v d bs l n = open-not own (setTo v d bs) v (ap isUnset (set-here v d bs l) ∙ n)
 
+pub open-unset : (own v : ℕ) (bs : Bindings) → v < own → v < length bs → isOpen own (setTo v unset bs) v ≡ true
+unfolding isOpen
+open-unset own v bs l n = ap₂ _&&_ (lt-ltb v own l) (ap isUnset (set-here v unset bs n) ∙ unset-unset)
+
 -- where only variables up to v may be open: those before it, if it is not, or if it is set
 pub open-less : (own k : ℕ) (bs : Bindings) → ((i : ℕ) → suc k ≤ i → isOpen own bs i ≡ false) → isOpen own bs k ≡ false → (i : ℕ) → k ≤ i → isOpen own bs i ≡ false
 open-less own k bs n e i l = go (eqb i k) refl
@@ -134,6 +138,19 @@ open-set own v d bs l u n =
 -- and the terms that the variables stand for
 pub value-there : (us : List Term) (v i : ℕ) (d : Binding) (bs : Bindings) → (i ≡ v → ⊥) → valueOf us (setTo v d bs) i ≡ valueOf us bs i
 value-there us v i d bs n = sym (bound-means us (setTo v d bs) i) ∙ ap (meant us) (set-there v i d bs n) ∙ bound-means us bs i
+
+-- what a frame may become with a variable set it may become with the variable unset, and the variable stands for what it is set to
+pub becomes-less : (us : List Term) (m v : ℕ) (d : Binding) (fr es : Bindings) → v < m → v < length fr → Becomes us m (setTo v d fr) es → Becomes us m (setTo v unset fr) es
+becomes-less us m v d fr es l n b j h =
+    b j (open-there m v j d fr other ∙ (sym (open-there m v j unset fr other) ∙ h))
+    ∙ (value-there us v j d fr other ∙ sym (value-there us v j unset fr other))
+  where
+    other : j ≡ v → ⊥
+    other e = false≢true (sym h ∙ (ap (isOpen m (setTo v unset fr)) e ∙ open-unset m v fr l n))
+
+pub becomes-value : (us : List Term) (m v i : ℕ) (fr es : Bindings) → v < length fr → (i ≡ 2147483647 → ⊥) → Becomes us m (setTo v (Candidate i) fr) es → valueOf us es v ≡ meant us (Candidate i)
+becomes-value us m v i fr es n k b =
+    b v (open-here m v (Candidate i) fr n (candidate-set i k)) ∙ (sym (bound-means us (setTo v (Candidate i) fr) v) ∙ ap (meant us) (set-here v (Candidate i) fr n))
 
 pub set-alike : (us : List Term) (v : ℕ) (d : Binding) (bs : Bindings) → valueOf us bs v ≡ meant us d → Alike us bs (setTo v d bs)
 set-alike us v d [] e i = refl

@@ -50,21 +50,23 @@ use Rattle.proving.specs.Stock.{Stock, Keeps}
 use Rattle.proving.specs.Provable.{provable}
 use Rattle.proving.specs.Hand.{deeper, Opened}
 use Rattle.proving.specs.Proving.{Ready, Taken, Answers, Proving, ProvingAs, ProvingBy, Passing, passes}
-use Rattle.proving.specs.Parts.{PartsAt, PartsOf, ClauseParts, CoreAt, isPlain, quantifiers, core, headOf, variableWord, bodyPlace}
+use Rattle.proving.specs.Parts.{PartsAt, PartsOf, ClauseParts, CoreAt, isPlain, quantifiers, core, headOf, variableWord, bodyPlace, withHead}
 use Rattle.proving.specs.Frames.{alls, unsets, setTo, Completes}
 use Rattle.proving.specs.First.{FirstFrame, Forcing, Located}
-use Rattle.proving.specs.Filling.{Looks, Seen, Dues, BodySeen, Looking, LookingAs, LookingOne, HeadIn, PartsIn, Filling, MayFit, Fits, floor, Unsets, Fillable, Meeting, LookedAll, LookedNew, LookingBody, FillingFrom, FillingEach, LeavesBut, Filled, Fails, FilledWith, FillingWith, Starting, PassingParts, LocatingSome}
+use Rattle.proving.specs.Filling.{Looks, Seen, Dues, BodySeen, Looking, LookingAs, LookingOne, HeadIn, PartsIn, Filling, MayFit, Fits, floor, Unsets, Fillable, Meets, Meeting, LookedNew, SoFar, LookingBody, FillingFrom, FillingEach, LeavesBut, Filled, Fails, FilledWith, FillingWith, Starting, PassingParts, LocatingSome}
 use Rattle.proving.specs.Chain.{chain, inside, headless, ChainAt, ChainOf}
 use Rattle.proving.specs.declared.Chosen.{Chosen}
 use Rattle.proving.specs.declared.Chosen.the-variants as C
 use Rattle.proving.specs.declared.plain.Parts.{Parts}
+use Rattle.proving.specs.declared.Going.{Going}
+use Rattle.proving.specs.declared.Going.the-variants as G
 use Rattle.proving.proofs.StockLaws.{keeps-same, keeps-then, keeps-less}
 use Rattle.proving.proofs.ReadyLaws.{may-be, allowed-below, ready-kept, ready-part}
 use Rattle.proving.proofs.ProvingLaws.{bytesAt, both-of}
 use Rattle.proving.proofs.HandLaws.{Opens, opened-head}
 use Rattle.proving.proofs.PassingLaws.{clause-there, by-opened}
 use Rattle.proving.proofs.PlainLaws.{word-in, frame-set, others-stay, head-in, parts-over, frame-is, frame-many, frame-ends, filling-over, filling-kept, word-free, filling-set, filling-body, start-keeps, start-filling}
-use Rattle.proving.proofs.CompletesLaws.{unset-is, open-beyond, open-below, open-less, set-open, open-there, open-set, may-set, unsets-open}
+use Rattle.proving.proofs.CompletesLaws.{unset-is, open-beyond, open-below, open-less, set-open, open-there, open-set, may-set, unsets-open, becomes-less}
 use Rattle.proving.proofs.LookedLaws.{looked-one, looks-low, looks-first, looks-second, looks-now}
 use Rattle.proving.proofs.FirstLaws.{unsets-length, forcing-start, located}
 use Rattle.proving.proofs.FillingLaws.{plain-is, alls-fillable, head-differs, body-lacks, set-goes, filled, filled-fillable, looked-all, looked-start}
@@ -208,7 +210,7 @@ module _ {f : Files} {room : List ℕ} {w : Where} {p : Parts} {left : ℕ} wher
     record { kept = keeps-same room; whole = λ y i q. refl },
     subst (λ (y : ℕ). Filled us left o c bs a e (p .own) y fr (bindingsAt room (p .head)) r) {x = 0} {y = k} (sym z)
         (subst (λ (y : Bindings). Filled us left o c bs a e (p .own) 0 fr y r) (sym (frame-is t))
-        (filled us left o c bs a e (headOf e) (p .own) fr r (has-head f room p e fr (t .parts)) (λ i. n i (omega (arith, z))) looked (s ds us left o c bs a e fr t))),
+        (filled us left o c bs a e (headOf e) (p .own) fr r (has-head f room p e fr (t .parts)) (λ i. n i (omega (arith, z))) (looked .looked) (s ds us left o c bs a e fr t (looked .head)))),
   )
 
   -- variable k - 1 is unset, or it is set
@@ -315,7 +317,7 @@ one-more P i before here j h = go (eqb j i) refl
 abbrev pub EachLeft : Files → List ℕ → Where → Parts → ℕ → ℕ → List ℕ → ℕ → Type 0
 EachLeft f room w p v left now i =
     (ds : List (Clause Plain)) (us : List Term) (o : List Plain) (c : Hand Plain) (bs : Bindings) (a : Atom) (e : Clause Plain) (fr : Bindings) →
-    Filling f room ds us w p left o c bs a e fr → isOpen (p .own) fr v ≡ true → ((j : ℕ) → v < j → isOpen (p .own) fr j ≡ false) → LookedAll us left o c (p .own) e fr →
+    Filling f room ds us w p left o c bs a e fr → isOpen (p .own) fr v ≡ true → ((j : ℕ) → v < j → isOpen (p .own) fr j ≡ false) → SoFar us left o c bs a p e fr →
     But (Stock f ds us (w .supposed) c) w p v room now × ((j : ℕ) → j < i → Fails us left o c bs a e (p .own) v j fr)
 
 module _ {f : Files} {room : List ℕ} {w : Where} {p : Parts} {left : ℕ} (v : ℕ) where
@@ -324,12 +326,12 @@ module _ {f : Files} {room : List ℕ} {w : Where} {p : Parts} {left : ℕ} (v :
 
   -- what the call for candidate i says of the frame
   each-says : {now after : List ℕ} {s : Bool} {ds : List (Clause Plain)} {us : List Term} {o : List Plain} {c : Hand Plain} {bs : Bindings} {a : Atom} {e : Clause Plain} {fr : Bindings} (i n : ℕ) → i < n → n ≡ getD room candidatesWord 0 → But (Stock f ds us (w .supposed) c) w p v room now → length now ≡ length room → FillingWith f now after w p v i left s
-      → Filling f room ds us w p left o c bs a e fr → isOpen (p .own) fr v ≡ true → ((j : ℕ) → v < j → isOpen (p .own) fr j ≡ false) → LookedAll us left o c (p .own) e fr
+      → Filling f room ds us w p left o c bs a e fr → isOpen (p .own) fr v ≡ true → ((j : ℕ) → v < j → isOpen (p .own) fr j ≡ false) → SoFar us left o c bs a p e fr
       → LeavesBut (Stock f ds us (w .supposed) c) w p v now after s × FilledWith us left o c bs a e (p .own) v i fr (bindingsAt after (p .head)) s
   each-says {now} {ds = ds} {us = us} {o = o} {c = c} {bs = bs} {a = a} {e = e} {fr = fr} i n l q but len call t y above looked =
       let own = open-below (p .own) fr v y .0 in
       let b : i < length us = omega (arith, t .ready .place .booked .candidates .counted) in
-      let (lv, says) = call ds us o c bs a e (bindingsAt now (p .head)) (filling-but t own but len) own (λ j h. but-open t own but len j h ∙ above j h) (subst (λ (x : Bindings). LookedAll us left o c (p .own) e x) (sym (but-set t own but len unset unset-fits ∙ set-open (p .own) fr v y)) looked) in
+      let (lv, says) = call ds us o c bs a e (bindingsAt now (p .head)) (filling-but t own but len) own (λ j h. but-open t own but len j h ∙ above j h) (subst (λ (x : Bindings). SoFar us left o c bs a p e x) (sym (but-set t own but len unset unset-fits ∙ set-open (p .own) fr v y)) looked) in
       (lv, but-says t own but len (omega (arith, t .ready .place .booked .candidates .few)) says)
 
   pub each-miss : {now after : List ℕ} {s : Bool} (i n : ℕ) → i < n → n ≡ getD room candidatesWord 0 → EachLeft f room w p v left now i → length now ≡ length room → FillingWith f now after w p v i left s → s ≡ false → EachLeft f room w p v left after (i + 1)
@@ -419,7 +421,12 @@ module _ {f : Files} {room : List ℕ} {w : Where} {p : Parts} {left : ℕ} (v i
       let few : length us ≤ 2147483647 = omega (arith, t .ready .place .booked .candidates .few) in
       let (t′, but) = written t l below xe me in
       let b = m ds us o c bs a e (setTo v (Candidate i) fr) t′ in
-      let (lv, says) = call ds us o c bs a e (setTo v (Candidate i) fr) (filling-kept t′ (b .kept) len) (omega arith) (open-set (p .own) v (Candidate i) fr (omega (arith, l, t .own, frame-many t)) (may-set us o i ok few) above) (looked-all us left o c bs a e (p .own) v unset (Candidate i) fr looked (b .yes z)) in (
+      let long : v < length fr = omega (arith, l, t .own, frame-many t) in
+      let known : SoFar us left o c bs a p e (setTo v (Candidate i) fr) = record {
+        looked = looked-all us left o c bs a e (p .own) v unset (Candidate i) fr (looked .looked) (b .yes z);
+        head = λ h es k. looked .head h es (becomes-less us (p .own) v (Candidate i) fr es l long k);
+      } in
+      let (lv, says) = call ds us o c bs a e (setTo v (Candidate i) fr) (filling-kept t′ (b .kept) len) (omega arith) (open-set (p .own) v (Candidate i) fr long (may-set us o i ok few) above) known in (
         record {
           kept = keeps-then room late after (omega arith) (omega arith) (keeps-then room mid late (omega arith) (omega arith) (but-keeps t l but) (b .kept)) (lv .kept);
           whole = λ n j h x. lv .whole n j h ∙ (b .kept .words j h ∙ but .words j h x);
@@ -435,30 +442,39 @@ module _ {f : Files} {room : List ℕ} {w : Where} {p : Parts} {left : ℕ} wher
   plain-no {us = us} {o = o} {c = c} {bs = bs} {a = a} {e = e} {bs′ = bs′} t k n =
       (record { kept = k; answer = alls-fillable us left o c bs a (p .own) e bs′ false n }, λ z. absurd (false≢true z))
 
-  pub plain-settled : {mid after : List ℕ} {s : Bool} → Unsets room mid (p .head) (p .own) → Meeting f mid after w p s → s ≡ false → PassingParts f room after w p left false
-  plain-settled {mid} {after} u m n ds us o c bs a e bs′ t =
-      let (k, st) = m ds us left o c bs a e (unsets (p .own) bs′) (start-filling t u) in
-      plain-no t (keeps-then room mid after (omega arith) (omega arith) (start-keeps t u) k) (st .no n)
+  -- what the head and the atom leave
+  met : {mid after : List ℕ} (s : Going) {ds : List (Clause Plain)} {us : List Term} {o : List Plain} {c : Hand Plain} {bs : Bindings} {a : Atom} {e : Clause Plain} {bs′ : Bindings} → Starting f room ds us w p left o c bs a e bs′ → Unsets room mid (p .head) (p .own) → Meeting f mid after w p s
+      → Keeps (Stock f ds us (w .supposed) c) (w .supposed) (floor p) room after × Meets f after ds us w p left o c bs a e (unsets (p .own) bs′) s
+  met {mid} {after} s {ds} {us} {o} {c} {bs} {a} {e} {bs′} t u m =
+      let (k, n) = m ds us left o c bs a e (unsets (p .own) bs′) (start-filling t u) (λ y es q. t .same y es) in
+      (keeps-then room mid after (omega arith) (omega arith) (start-keeps t u) k, n)
 
-  pub plain-body : {mid late after : List ℕ} {s b : Bool} → Unsets room mid (p .head) (p .own) → Meeting f mid late w p s → s ≡ true → LookingBody f late after w p false 0 left b → b ≡ false → PassingParts f room after w p left false
-  plain-body {mid} {late} {after} u m y q z ds us o c bs a e bs′ t =
-      let (k, st) = m ds us left o c bs a e (unsets (p .own) bs′) (start-filling t u) in
-      let (fr, t′, forcing, back) = st .yes y in
-      let b = q ds us o c bs a e fr t′ in
-      plain-no t (keeps-then room late after (omega arith) (omega arith) (keeps-then room mid late (omega arith) (omega arith) (start-keeps t u) k) (b .kept)) (back false (b .no z))
+  pub plain-settled : {mid after : List ℕ} {s : Going} → Unsets room mid (p .head) (p .own) → Meeting f mid after w p s → s ≡ G.Never → PassingParts f room after w p left false
+  plain-settled {after = after} {s = s} u m n ds us o c bs a e bs′ t =
+      let (k, st) = met s t u m in
+      plain-no t k (subst (Meets f after ds us w p left o c bs a e (unsets (p .own) bs′)) n st)
 
-  pub plain-goes : {mid late last after : List ℕ} {s b r : Bool} → Unsets room mid (p .head) (p .own) → Meeting f mid late w p s → s ≡ true → LookingBody f late last w p false 0 left b → b ≡ true → length last ≡ length late → FillingFrom f last after w p (p .own) left r → PassingParts f room after w p left r
-  plain-goes {mid} {late} {last} {after} {r = r} u m y q z len call ds us o c bs a e bs′ t =
-      let (k, st) = m ds us left o c bs a e (unsets (p .own) bs′) (start-filling t u) in
-      let (fr, t′, forcing, back) = st .yes y in
-      let b = q ds us o c bs a e fr t′ in
-      let (lv, says) = call ds us o c bs a e fr (filling-kept t′ (b .kept) len) (omega arith) (open-beyond (p .own) fr) (looked-start us left o c bs a e (p .own) fr (b .yes z)) in
+  pub plain-body : {mid late after : List ℕ} {s : Going} {q : Parts} {b : Bool} → Unsets room mid (p .head) (p .own) → Meeting f mid late w p s → s ≡ G.On q → LookingBody f late after w q false 0 left b → b ≡ false → PassingParts f room after w p left false
+  plain-body {late = late} {after = after} {s = s} {b = b} u m y looks z ds us o c bs a e bs′ t =
+      let (k, st) = met s t u m in
+      let (headed, is, n) = subst (Meets f late ds us w p left o c bs a e (unsets (p .own) bs′)) y st in
+      let seen = subst (λ (x : Parts). LookingBody f late after w x false 0 left b) is looks ds us o c bs a e (n .frame) (n .filling) in
+      plain-no t (keeps-then room late after (omega arith) (omega arith) k (seen .kept)) (n .back false (seen .no z))
+
+  pub plain-goes : {mid late last after : List ℕ} {s : Going} {q : Parts} {b r : Bool} → Unsets room mid (p .head) (p .own) → Meeting f mid late w p s → s ≡ G.On q → LookingBody f late last w q false 0 left b → b ≡ true → length last ≡ length late → FillingFrom f last after w q (p .own) left r → PassingParts f room after w p left r
+  plain-goes {late = late} {last = last} {after = after} {s = s} {b = b} {r = r} u m y looks z len call ds us o c bs a e bs′ t =
+      let (k, st) = met s t u m in
+      let (headed, is, n) = subst (Meets f late ds us w p left o c bs a e (unsets (p .own) bs′)) y st in
+      let fr = n .frame in
+      let seen = subst (λ (x : Parts). LookingBody f late last w x false 0 left b) is looks ds us o c bs a e fr (n .filling) in
+      let known : SoFar us left o c bs a (withHead p headed) e fr = record { looked = looked-start us left o c bs a e (p .own) fr (seen .yes z); head = n .is } in
+      let (lv, says) = subst (λ (x : Parts). FillingFrom f last after w x (p .own) left r) is call ds us o c bs a e fr (filling-kept (n .filling) (seen .kept) len) (omega arith) (open-beyond (p .own) fr) known in
       let few : length us ≤ 2147483647 = omega (arith, t .ready .place .booked .candidates .few) in (
         record {
-          kept = keeps-then room last after (omega arith) (omega arith) (keeps-then room late last (omega arith) (omega arith) (keeps-then room mid late (omega arith) (omega arith) (start-keeps t u) k) (b .kept)) (lv .kept);
-          answer = alls-fillable us left o c bs a (p .own) e bs′ r (back r (filled-fillable us left o c bs a e (p .own) fr (bindingsAt after (p .head)) r few (omega (arith, t′ .own, frame-many t′)) says));
+          kept = keeps-then room last after (omega arith) (omega arith) (keeps-then room late last (omega arith) (omega arith) k (seen .kept)) (lv .kept);
+          answer = alls-fillable us left o c bs a (p .own) e bs′ r (n .back r (filled-fillable us left o c bs a e (p .own) fr (bindingsAt after (p .head)) r few (omega (arith, n .filling .own, frame-many (n .filling))) says));
         },
-        λ h. located after (p .head .base) (p .head .count) (t .own) (forcing bs′ (forcing-start us o (p .own) (passes us left o c bs a e) bs′)) (says .yes h .0) (says .yes h .1),
+        λ h. located after (p .head .base) (p .head .count) (t .own) (n .forcing bs′ (forcing-start us o (p .own) (passes us left o c bs a e) bs′)) (says .yes h .0) (says .yes h .1),
       )
 
 -- what is inside the quantifiers of a clause

@@ -2,7 +2,7 @@
 use Prim.Native.Nat.{ℕ, zero, suc, _+_, _-_, _≤_, _<_}
 use native.Mathlib.Omega.{arith}
 use mathlib.Core.Path.{_≡_, refl, sym, _∙_, ap, ap₂, subst}
-use mathlib.Core.Bool.{Bool, true}
+use mathlib.Core.Bool.{Bool, true, false, false≢true}
 use mathlib.Core.List.{List, [], _∷_}
 use lib.ListN.{length, getD, set, length-set}
 use lib.Seq.{getD-set-other}
@@ -28,7 +28,7 @@ use Rattle.mentions.specs.Open.{unset}
 use Rattle.keys.specs.Keys.{keyWord}
 use Rattle.proving.specs.Stock.{Stock, Keeps}
 use Rattle.proving.specs.Proving.{Ready}
-use Rattle.proving.specs.Parts.{variableWord, bodyPlace, headOf}
+use Rattle.proving.specs.Parts.{variableWord, bodyPlace, headOf, withHead}
 use Rattle.proving.specs.Frames.{unsets, setTo}
 use Rattle.proving.specs.Filling.{HeadIn, BodyIn, PartsIn, Filling, Unsets, Starting, floor}
 use Rattle.proving.specs.declared.plain.Parts.{Parts}
@@ -183,7 +183,7 @@ module _ {f : Files} {room : List ℕ} {ds : List (Clause Plain)} {us : List Ter
   -- in another room, where the place and the parts stand
   pub filling-over : {after : List ℕ} {fr′ : Bindings} → Ready f after ds us w (suc left) o c bs (t .asked) → PartsIn f after p e fr′ → Filling f after ds us w p left o c bs a e fr′
   filling-over r q =
-      record { asked = t .asked; ready = r; atom = t .atom; same = t .same; parts = q; own = t .own; fresh = t .fresh; reach = t .reach }
+      record { asked = t .asked; ready = r; atom = t .atom; parts = q; own = t .own; fresh = t .fresh; reach = t .reach }
 
   -- after a call that keeps what is below the frame's end
   pub filling-kept : {after : List ℕ} → Keeps (Stock f ds us (w .supposed) c) (w .supposed) (p .head .base + p .head .count) room after → length after ≡ length room → Filling f after ds us w p left o c bs a e fr
@@ -218,6 +218,23 @@ module _ {f : Files} {room : List ℕ} {ds : List (Clause Plain)} {us : List Ter
         filling-over
         (ready-kept (keeps-less room after (omega arith) (omega (arith, t .fresh)) write-keeps) (length-set room (variableWord (p .head) v) (held (bindingWord d))) (t .ready))
         (parts-over f room after p e fr (setTo v d fr) holds (set-long v d fr) (t .parts))
+
+-- the same parts with a head that is not to be compared
+pub filling-compared : {f : Files} {room : List ℕ} {ds : List (Clause Plain)} {us : List Term} {w : Where} {p : Parts} {left : ℕ} {o : List Plain} {c : Hand Plain} {bs : Bindings} {a : Atom} {e : Clause Plain} {fr : Bindings} → Filling f room ds us w p left o c bs a e fr → Filling f room ds us w (withHead p false) left o c bs a e fr
+filling-compared {f} {room} {p = p} {e = e} {fr = fr} t =
+    record { asked = t .asked; ready = t .ready; atom = λ y. absurd (false≢true y); parts = go e (t .parts); own = t .own; fresh = t .fresh; reach = t .reach }
+  where
+    head : (b : Atom) → HeadIn f room p b fr → HeadIn f room (withHead p false) b fr
+    head b h = record { above = h .above; holds = h .holds; shallow = h .shallow; framed = λ y. absurd (false≢true y); scoped = λ y. absurd (false≢true y) }
+
+    body : (g : Goal Plain) → BodyIn f room p g fr → BodyIn f room (withHead p false) g fr
+    body g h = record { framed = h .framed; scoped = h .scoped; base = h .base; count = h .count }
+
+    go : (e : Clause Plain) → PartsIn f room p e fr → PartsIn f room (withHead p false) e fr
+    go (Clause.atomD b) h = (h .0, head b (h .1))
+    go (Clause.impD g b) h = (h .0, head b (h .1), body g (h .2))
+    go (Clause.allD q d) h = absurd h
+    go (Clause.andD c d) h = absurd h
 
 -- the place of the body
 pub filling-body : {f : Files} {room : List ℕ} {ds : List (Clause Plain)} {us : List Term} {w : Where} {p : Parts} {left : ℕ} {o : List Plain} {c : Hand Plain} {bs : Bindings} {a : Atom} {g : Goal Plain} {b : Atom} {fr : Bindings} → Filling f room ds us w p left o c bs a (Clause.impD g b) fr → Ready f room ds us (bodyPlace w p) left o c fr g
@@ -272,7 +289,6 @@ module _ {f : Files} {room after : List ℕ} {ds : List (Clause Plain)} {us : Li
         asked = t .asked;
         ready = ready-kept (keeps-less room after (omega arith) (omega (arith, t .fresh)) start-keeps) (u .long) (t .ready);
         atom = t .atom;
-        same = t .same;
         parts = t .parts after holds;
         own = t .own;
         fresh = t .fresh;

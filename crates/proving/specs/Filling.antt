@@ -22,16 +22,20 @@ use Rattle.room.specs.declared.Spot.{Spot}
 use Rattle.room.specs.declared.Where.{Where}
 use Rattle.heads.specs.Heads.{goalWord}
 use Rattle.keys.specs.Key.{atomKey, predicateKey}
-use Rattle.mentions.specs.Open.{unset, isOpen, asked}
+use Rattle.mentions.specs.Open.{unset, isOpen, asked, Becomes}
 use Rattle.mentions.specs.Mentions.{mentionsGoal}
+use Rattle.unset.specs.declared.Likeness.{Likeness}
+use Rattle.unset.specs.declared.Likeness.the-variants as L
 use Rattle.proving.specs.Provable as provable
 use Rattle.proving.specs.Stock.{Stock, Keeps}
 use Rattle.proving.specs.Proving.{Ready, Taken, Answers, passes}
-use Rattle.proving.specs.Parts.{variableWord, isPlain, quantifiers, core, headOf}
+use Rattle.proving.specs.Parts.{variableWord, isPlain, quantifiers, core, headOf, withHead}
 use Rattle.proving.specs.Chain.{chain, inside, headless}
 use Rattle.proving.specs.Frames.{alls, unsets, setTo, Completes}
 use Rattle.proving.specs.First.{FirstFrame, Forcing, Located}
 use Rattle.proving.specs.declared.plain.Parts.{Parts}
+use Rattle.proving.specs.declared.Going.{Going}
+use Rattle.proving.specs.declared.Going.the-variants as G
 
 -- a goal that is looked at: it holds no unset variable and, if variable v is asked for as well, holds that one
 pub record Due (own : ℕ) (bs : Bindings) (also : Bool) (v : ℕ) (g : Goal Plain) : Type 0 where
@@ -120,16 +124,22 @@ abbrev pub floor : Parts → ℕ
 floor p = p .head .base + (p .head .count - p .own)
 
 -- where such a clause is searched: the place of the atom, which the head is compared with, and the parts with a frame that reaches at most so far above the stack.
--- Where there is no head to compare the place is that of another goal, and clause and atom are such that nothing depends on them: they are the same whatever the frame becomes
+-- Where there is no head to compare the place may be that of another goal
 pub record Filling (f : Files) (room : List ℕ) (ds : List (Clause Plain)) (us : List Term) (w : Where) (p : Parts) (left : ℕ) (o : List Plain) (c : Hand Plain) (bs : Bindings) (a : Atom) (e : Clause Plain) (fr : Bindings) : Type 0 where
   pub asked : Goal Plain
   pub ready : Ready f room ds us w (suc left) o c bs asked
   pub atom : p .headed ≡ true → asked ≡ Goal.atom a
-  pub same : p .headed ≡ false → (es : Bindings) → sameAtom (replacedAtom us es (headOf e)) (replacedAtom us bs a) ≡ true
   pub parts : PartsIn f room p e fr
   pub own : p .own ≤ p .head .count
   pub fresh : w .top ≤ floor p
   pub reach : p .head .base + p .head .count ≤ w .top + levels
+
+-- the head is the atom, whatever a frame becomes; and this of a head that is not to be compared
+abbrev pub HeadIs : List Term → ℕ → Bindings → Atom → Clause Plain → Bindings → Type 0
+HeadIs us own bs a e fr = (es : Bindings) → Becomes us own fr es → sameAtom (replacedAtom us es (headOf e)) (replacedAtom us bs a) ≡ true
+
+abbrev pub HeadStays : List Term → Parts → Bindings → Atom → Clause Plain → Bindings → Type 0
+HeadStays us p bs a e fr = p .headed ≡ false → HeadIs us (p .own) bs a e fr
 
 -- the first variables of a frame unset, and nothing else touched
 pub record Unsets (room after : List ℕ) (x : Spot) (own : ℕ) : Type 0 where
@@ -150,30 +160,55 @@ MayFit f room w p r =
     Filling f room ds us w p left o c bs a e fr → r ≡ false →
     Fillable us left o c bs a e (p .own) fr false
 
--- whether the head is the atom
+-- whether the head is the atom, where one that is not to be compared is
 abbrev pub Fits : Files → List ℕ → Where → Parts → Bool → Type 0
 Fits f room w p r =
     (ds : List (Clause Plain)) (us : List Term) (left : ℕ) (o : List Plain) (c : Hand Plain) (bs : Bindings) (a : Atom) (e : Clause Plain) (fr : Bindings) →
-    Filling f room ds us w p left o c bs a e fr →
+    Filling f room ds us w p left o c bs a e fr → HeadStays us p bs a e fr →
     r ≡ sameAtom (replacedAtom us fr (headOf e)) (replacedAtom us bs a)
 
--- what the atom forces is set, and nothing else: where only what is forced was set before, only that is set then, and whatever is said of the frame then holds of the frame before; or nothing completes it
-pub record Settled (f : Files) (after : List ℕ) (ds : List (Clause Plain)) (us : List Term) (w : Where) (p : Parts) (left : ℕ) (o : List Plain) (c : Hand Plain) (bs : Bindings) (a : Atom) (e : Clause Plain) (fr : Bindings) (r : Bool) : Type 0 where
-  pub yes : r ≡ true → (fr′ : Bindings) × Filling f after ds us w p left o c bs a e fr′ × ((around : Bindings) → Forcing us o (p .own) (passes us left o c bs a e) around fr → Forcing us o (p .own) (passes us left o c bs a e) around fr′) × ((s : Bool) → Fillable us left o c bs a e (p .own) fr′ s → Fillable us left o c bs a e (p .own) fr s)
-  pub no : r ≡ false → Fillable us left o c bs a e (p .own) fr false
+-- the frame in which what the atom forces is set, and nothing else: where only what is forced was set before, only that is set then; what it may become the frame before may become; whatever is said of it holds of the frame before; and something is known of it
+pub record Onward (f : Files) (after : List ℕ) (ds : List (Clause Plain)) (us : List Term) (w : Where) (p : Parts) (left : ℕ) (o : List Plain) (c : Hand Plain) (bs : Bindings) (a : Atom) (e : Clause Plain) (fr : Bindings) (known : Bindings → Type 0) : Type 0 where
+  pub frame : Bindings
+  pub filling : Filling f after ds us w p left o c bs a e frame
+  pub forcing : (around : Bindings) → Forcing us o (p .own) (passes us left o c bs a e) around fr → Forcing us o (p .own) (passes us left o c bs a e) around frame
+  pub less : (es : Bindings) → Becomes us (p .own) frame es → Becomes us (p .own) fr es
+  pub back : (s : Bool) → Fillable us left o c bs a e (p .own) frame s → Fillable us left o c bs a e (p .own) fr s
+  pub is : known frame
 
--- by a head that is to be compared, and by none as well
-abbrev pub Settling : Files → List ℕ → List ℕ → Where → Parts → Bool → Type 0
+-- whether nothing makes the two the same, and whether everything does
+abbrev pub isNever : Likeness → Bool
+isNever L.Never = true
+isNever L.Open = false
+isNever L.Same = false
+
+abbrev pub isSame : Likeness → Bool
+isSame L.Never = false
+isSame L.Open = false
+isSame L.Same = true
+
+-- what two parts of head and atom leave: such a frame, of which something is known where they are the same whatever it becomes; or nothing completes the frame before
+pub record Settled (f : Files) (after : List ℕ) (ds : List (Clause Plain)) (us : List Term) (w : Where) (p : Parts) (left : ℕ) (o : List Plain) (c : Hand Plain) (bs : Bindings) (a : Atom) (e : Clause Plain) (fr : Bindings) (same : Bindings → Type 0) (r : Likeness) : Type 0 where
+  pub yes : isNever r ≡ false → Onward f after ds us w p left o c bs a e fr (λ x. isSame r ≡ true → same x)
+  pub no : isNever r ≡ true → Fillable us left o c bs a e (p .own) fr false
+
+-- by a head that is to be compared
+abbrev pub Settling : Files → List ℕ → List ℕ → Where → Parts → Likeness → Type 0
 Settling f room after w p r =
     (ds : List (Clause Plain)) (us : List Term) (left : ℕ) (o : List Plain) (c : Hand Plain) (bs : Bindings) (a : Atom) (e : Clause Plain) (fr : Bindings) →
     Filling f room ds us w p left o c bs a e fr → p .headed ≡ true →
-    Keeps (Stock f ds us (w .supposed) c) (w .supposed) (floor p) room after × Settled f after ds us w p left o c bs a e fr r
+    Keeps (Stock f ds us (w .supposed) c) (w .supposed) (floor p) room after × Settled f after ds us w p left o c bs a e fr (HeadIs us (p .own) bs a e) r
 
-abbrev pub Meeting : Files → List ℕ → List ℕ → Where → Parts → Bool → Type 0
+-- and by none as well: what is left to be searched are the parts, whose head is the atom if it is not to be compared any more
+abbrev pub Meets : Files → List ℕ → List (Clause Plain) → List Term → Where → Parts → ℕ → List Plain → Hand Plain → Bindings → Atom → Clause Plain → Bindings → Going → Type 0
+Meets f after ds us w p left o c bs a e fr G.Never = Fillable us left o c bs a e (p .own) fr false
+Meets f after ds us w p left o c bs a e fr (G.On q) = (headed : Bool) × (q ≡ withHead p headed) × Onward f after ds us w (withHead p headed) left o c bs a e fr (HeadStays us (withHead p headed) bs a e)
+
+abbrev pub Meeting : Files → List ℕ → List ℕ → Where → Parts → Going → Type 0
 Meeting f room after w p r =
     (ds : List (Clause Plain)) (us : List Term) (left : ℕ) (o : List Plain) (c : Hand Plain) (bs : Bindings) (a : Atom) (e : Clause Plain) (fr : Bindings) →
-    Filling f room ds us w p left o c bs a e fr →
-    Keeps (Stock f ds us (w .supposed) c) (w .supposed) (floor p) room after × Settled f after ds us w p left o c bs a e fr r
+    Filling f room ds us w p left o c bs a e fr → HeadStays us p bs a e fr →
+    Keeps (Stock f ds us (w .supposed) c) (w .supposed) (floor p) room after × Meets f after ds us w p left o c bs a e fr r
 
 -- all goals of the body that hold no unset variable have a proof
 abbrev pub LookedAll : List Term → ℕ → List Plain → Hand Plain → ℕ → Clause Plain → Bindings → Type 0
@@ -188,6 +223,11 @@ LookedNew us left o c own also v (Clause.atomD b) fr = Unit {0}
 LookedNew us left o c own also v (Clause.impD g b) fr = Looked us o c own fr also v left g
 LookedNew us left o c own also v (Clause.allD q d) fr = Unit {0}
 LookedNew us left o c own also v (Clause.andD d e) fr = Unit {0}
+
+-- what is known of a frame on the way: those goals have a proof, and a head that is not to be compared is the atom
+pub record SoFar (us : List Term) (left : ℕ) (o : List Plain) (c : Hand Plain) (bs : Bindings) (a : Atom) (p : Parts) (e : Clause Plain) (fr : Bindings) : Type 0 where
+  pub looked : LookedAll us left o c (p .own) e fr
+  pub head : HeadStays us p bs a e fr
 
 -- the body of the clause looked at
 pub record BodySeen (right : List ℕ → Type 0) (w : Where) (p : Parts) (left : ℕ) (room after : List ℕ) (us : List Term) (o : List Plain) (c : Hand Plain) (bs : Bindings) (a : Atom) (also : Bool) (v : ℕ) (e : Clause Plain) (fr : Bindings) (r : Bool) : Type 0 where
@@ -215,14 +255,14 @@ pub record Leaves (right : List ℕ → Type 0) (w : Where) (p : Parts) (room af
 abbrev pub FillingFrom : Files → List ℕ → List ℕ → Where → Parts → ℕ → ℕ → Bool → Type 0
 FillingFrom f room after w p k left r =
     (ds : List (Clause Plain)) (us : List Term) (o : List Plain) (c : Hand Plain) (bs : Bindings) (a : Atom) (e : Clause Plain) (fr : Bindings) →
-    Filling f room ds us w p left o c bs a e fr → k ≤ p .own → ((i : ℕ) → k ≤ i → isOpen (p .own) fr i ≡ false) → LookedAll us left o c (p .own) e fr →
+    Filling f room ds us w p left o c bs a e fr → k ≤ p .own → ((i : ℕ) → k ≤ i → isOpen (p .own) fr i ≡ false) → SoFar us left o c bs a p e fr →
     Leaves (Stock f ds us (w .supposed) c) w p room after r × Filled us left o c bs a e (p .own) k fr (bindingsAt after (p .head)) r
 
 -- variable v, which is unset, with each candidate
 abbrev pub FillingEach : Files → List ℕ → List ℕ → Where → Parts → ℕ → ℕ → Bool → Type 0
 FillingEach f room after w p v left r =
     (ds : List (Clause Plain)) (us : List Term) (o : List Plain) (c : Hand Plain) (bs : Bindings) (a : Atom) (e : Clause Plain) (fr : Bindings) →
-    Filling f room ds us w p left o c bs a e fr → isOpen (p .own) fr v ≡ true → ((i : ℕ) → v < i → isOpen (p .own) fr i ≡ false) → LookedAll us left o c (p .own) e fr →
+    Filling f room ds us w p left o c bs a e fr → isOpen (p .own) fr v ≡ true → ((i : ℕ) → v < i → isOpen (p .own) fr i ≡ false) → SoFar us left o c bs a p e fr →
     Leaves (Stock f ds us (w .supposed) c) w p room after r × Filled us left o c bs a e (p .own) (suc v) fr (bindingsAt after (p .head)) r
 
 -- with candidate i, whatever stands there in the room; after a no, all but the variable's own word is as it was
@@ -240,7 +280,7 @@ pub record FilledWith (us : List Term) (left : ℕ) (o : List Plain) (c : Hand P
 abbrev pub FillingWith : Files → List ℕ → List ℕ → Where → Parts → ℕ → ℕ → ℕ → Bool → Type 0
 FillingWith f room after w p v i left r =
     (ds : List (Clause Plain)) (us : List Term) (o : List Plain) (c : Hand Plain) (bs : Bindings) (a : Atom) (e : Clause Plain) (fr : Bindings) →
-    Filling f room ds us w p left o c bs a e fr → v < p .own → ((j : ℕ) → v < j → isOpen (p .own) fr j ≡ false) → LookedAll us left o c (p .own) e (setTo v unset fr) →
+    Filling f room ds us w p left o c bs a e fr → v < p .own → ((j : ℕ) → v < j → isOpen (p .own) fr j ≡ false) → SoFar us left o c bs a p e (setTo v unset fr) →
     LeavesBut (Stock f ds us (w .supposed) c) w p v room after r × FilledWith us left o c bs a e (p .own) v i fr (bindingsAt after (p .head)) r
 
 -- the whole clause, whose own variables are nothing yet: its parts stand, and the frame of the others is below them

@@ -100,6 +100,10 @@ pub record ClauseParts (f : Files) (room : List ℕ) (k : ℕ) (x : Spot) (r : P
 abbrev pub PlainAt : Files → Spot → Bool → Type 0
 PlainAt f x r = (d : Clause Plain) → nesting (clauseSexp d) ≤ levels → ClauseThere f x d → x .count ≤ levels → r ≡ isPlain d
 
+-- the same parts, with a head that is to be compared or is not
+abbrev pub withHead : Parts → Bool → Parts
+withHead p headed = record { found = p .found; own = p .own; body = p .body; headed = headed; goal = p .goal; head = p .head }
+
 -- the word of the room that variable v of a frame is in
 abbrev pub variableWord : Spot → ℕ → ℕ
 variableWord x v = choose (ltb v (x .count)) (plus (x .base) (x .count - 1 - v)) (plus (x .base) (x .count))

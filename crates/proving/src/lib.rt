@@ -26,3 +26,9 @@ pub enum Chosen {
     Nothing,
     Clause(Spot),
 }
+
+// What is left to be searched of a clause once its head is beside the atom: nothing if the head cannot become it.
+pub enum Going {
+    Never,
+    On(Parts),
+}

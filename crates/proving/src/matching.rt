@@ -1,6 +1,8 @@
 // The head of a clause with no `and` on the way to it beside the atom that is searched, argument by argument, in one walk: a variable of the clause that is an argument and not set yet is set to what the atom has there, any other argument without an unset variable is compared.
-// An argument that is a compound term with an unset variable decides nothing (document 02, Three: the head decides before candidates are tried).
+// An argument that is a compound term with an unset variable decides nothing (document 02, Three: the head decides before candidates are tried). Where there is none, the head is the atom whatever the variables that are left become, and is not compared again.
+use crate::Going;
 use crate::plain::Parts;
+use crate::plain::compared;
 use crate::plain::word_of;
 use harrop::Binding;
 use places::further;
@@ -15,14 +17,17 @@ use sexp::past;
 use sexp::same_text;
 use start::may_use;
 use unset::Forced;
+use unset::Likeness;
 use unset::candidate_at;
-use unset::differs;
+use unset::compare;
 use unset::open_at;
+ghost use mathlib.Core.Path.{_≡_};
 ghost use Rattle.room.specs.Where.{filesOf};
-ghost use Rattle.proving.specs.Filling.{Settling, Meeting};
-ghost use Rattle.proving.specs.Matching.{Matching, MatchingVariable};
+ghost use mathlib.Core.Bool.{_&&_};
+ghost use Rattle.proving.specs.Filling.{isNever, isSame, Settling, Meeting};
+ghost use Rattle.proving.specs.Matching.{atEnd, Matching, MatchingVariable};
 
-// Variable v of the clause, not set yet, set to the lowest candidate that is the atom's term at a spot. No: there is none, or it may not be used.
+// Variable v of the clause, not set yet, set to the lowest candidate that is the atom's term at a spot. Never: there is none, or it may not be used.
 fn force<'a>(
     rules: &'a [u8],
     goal: &'a [u8],
@@ -32,18 +37,18 @@ fn force<'a>(
     p: Parts,
     v: usize,
     y: Spot,
-) -> bool
+) -> Likeness
     ensures { λ r. ⌜ MatchingVariable (filesOf (now (rules .entry)) (now (goal .entry)) (now (terms .entry))) (now (room .entry)) (now (room .exit)) w p v y r ⌝ }
 {
     match candidate_at(rules, goal, terms, room, y) {
-        Forced::Nothing => false,
-        Forced::Never => false,
+        Forced::Nothing => Likeness::Never,
+        Forced::Never => Likeness::Never,
         Forced::Candidate(c) => {
             if !may_use(room, w.parameters, c as usize) {
-                return false;
+                return Likeness::Never;
             }
             push(room, word_of(p.head, v), Binding::Candidate(c));
-            true
+            Likeness::Same
         }
     }
 }
@@ -58,16 +63,51 @@ fn match_term<'a>(
     p: Parts,
     x: Spot,
     y: Spot,
-) -> bool
+) -> Likeness
     ensures { λ r. ⌜ Matching (filesOf (now (rules .entry)) (now (goal .entry)) (now (terms .entry))) (now (room .entry)) (now (room .exit)) w p x y r ⌝ }
 {
     match open_at(rules, goal, terms, room, x, p.own) {
         Value::Is(v) => force(rules, goal, terms, room, w, p, v, y),
-        Value::Nothing => !differs(rules, goal, terms, room, x, y, p.own),
+        Value::Nothing => compare(rules, goal, terms, room, x, y, p.own),
     }
 }
 
-// The whole head. No: whatever the clause's variables become, it is not the atom.
+// Whether nothing that the unset variables become makes it the same.
+fn is_never(l: Likeness) -> bool
+    ensures { λ r. ⌜ r ≡ isNever l ⌝ }
+{
+    match l {
+        Likeness::Never => true,
+        Likeness::Open => false,
+        Likeness::Same => false,
+    }
+}
+
+// Whether all arguments so far are the same whatever the unset variables become: those before, and this one.
+fn still(sure: bool, l: Likeness) -> bool
+    ensures { λ r. ⌜ r ≡ isSame l && sure ⌝ }
+{
+    match l {
+        Likeness::Never => false,
+        Likeness::Open => false,
+        Likeness::Same => sure,
+    }
+}
+
+// Where the head has no argument left: whether the atom has none either, and whether all were sure.
+fn at_end(ends: bool, sure: bool) -> Likeness
+    ensures { λ r. ⌜ r ≡ atEnd ends sure ⌝ }
+{
+    if !ends {
+        return Likeness::Never;
+    }
+    if sure {
+        return Likeness::Same;
+    }
+    Likeness::Open
+}
+
+// The whole head.
 fn match_head<'a>(
     rules: &'a [u8],
     goal: &'a [u8],
@@ -75,7 +115,7 @@ fn match_head<'a>(
     room: &mut [u32],
     w: Where,
     p: Parts,
-) -> bool
+) -> Likeness
     ensures { λ r. ⌜ Settling (filesOf (now (rules .entry)) (now (goal .entry)) (now (terms .entry))) (now (room .entry)) (now (room .exit)) w p r ⌝ }
 {
     let x = p.head;
@@ -85,33 +125,36 @@ fn match_head<'a>(
     let s = part(rules, goal, terms, a, x.at);
     let t = part(rules, goal, terms, b, y.at);
     if !same_text(s, 7, t, 7) {
-        return false;
+        return Likeness::Never;
     }
     let After::Next(n) = past(s, 7, 0) else {
-        return true;
+        return Likeness::Open;
     };
     let mut i = n;
     let mut j = n;
+    let mut sure = true;
     while !closes(s, i) {
         if closes(t, j) {
-            return false;
+            return Likeness::Never;
         }
-        if !match_term(rules, goal, terms, room, w, p, further(x, i), further(y, j)) {
-            return false;
+        let l = match_term(rules, goal, terms, room, w, p, further(x, i), further(y, j));
+        if is_never(l) {
+            return Likeness::Never;
         }
+        sure = still(sure, l);
         let After::Next(m) = past(s, i, 64) else {
-            return true;
+            return Likeness::Open;
         };
         let After::Next(k) = past(t, j, 64) else {
-            return true;
+            return Likeness::Open;
         };
         i = m;
         j = k;
     }
-    closes(t, j)
+    at_end(closes(t, j), sure)
 }
 
-// The head beside the atom, if there is one to compare. No: it cannot become the atom.
+// The head beside the atom, if there is one to compare: what is left to be searched, if anything. A head that is the atom whatever its variables become is not compared again.
 pub fn meet<'a>(
     rules: &'a [u8],
     goal: &'a [u8],
@@ -119,11 +162,15 @@ pub fn meet<'a>(
     room: &mut [u32],
     w: Where,
     p: Parts,
-) -> bool
+) -> Going
     ensures { λ r. ⌜ Meeting (filesOf (now (rules .entry)) (now (goal .entry)) (now (terms .entry))) (now (room .entry)) (now (room .exit)) w p r ⌝ }
 {
     if !p.headed {
-        return true;
+        return Going::On(p);
     }
-    match_head(rules, goal, terms, room, w, p)
+    match match_head(rules, goal, terms, room, w, p) {
+        Likeness::Never => Going::Never,
+        Likeness::Open => Going::On(p),
+        Likeness::Same => Going::On(compared(p)),
+    }
 }

@@ -17,7 +17,7 @@ use unset::may_be;
 ghost use Rattle.room.specs.Where.{filesOf};
 ghost use mathlib.Core.Bool.{false};
 ghost use mathlib.Core.Path.{_≡_};
-ghost use Rattle.proving.specs.Parts.{movedTo, HeadBehind, PartsFrom, PartsOf, ClauseParts, PlainAt, variableWord, bodyPlace};
+ghost use Rattle.proving.specs.Parts.{movedTo, HeadBehind, PartsFrom, PartsOf, ClauseParts, PlainAt, variableWord, bodyPlace, withHead};
 ghost use Rattle.proving.specs.Chain.{insideAt, ChainOf};
 ghost use Rattle.proving.specs.Filling.{Unsets, MayFit, Fits};
 
@@ -57,6 +57,22 @@ fn no_parts(x: Spot) -> Parts
         headed: true,
         goal: a,
         head: b,
+    }
+}
+
+// The same parts with a head that is not to be compared any more.
+pub(crate) fn compared(p: Parts) -> Parts
+    ensures { λ r. ⌜ r ≡ withHead p false ⌝ }
+{
+    let g = p.goal;
+    let h = p.head;
+    Parts {
+        found: p.found,
+        own: p.own,
+        body: p.body,
+        headed: false,
+        goal: g,
+        head: h,
     }
 }
 

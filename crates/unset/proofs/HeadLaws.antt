@@ -1,7 +1,7 @@
 -- A head beside an atom where some variables of the head's frame are unset: from what is read of the bytes to what is said of the two (document 02, Three).
 -- A term that holds no unset variable is the same term whatever the frame becomes, so where it differs it differs for good; and a head that becomes the atom gives each of its arguments the atom's argument there, so an argument that is a variable decides what the variable is.
 use Prim.Native.Nat.{ℕ, _+_, _≤_, _<_}
-use mathlib.Core.Path.{_≡_, refl, sym, _∙_, ap, subst}
+use mathlib.Core.Path.{_≡_, refl, sym, _∙_, ap, ap₂, subst}
 use mathlib.Core.Bool.{Bool, true, false, _&&_, _||_, false≢true}
 use mathlib.Core.List.{List}
 use mathlib.Core.Option.{some}
@@ -26,7 +26,7 @@ use Rattle.sexp.specs.Sexp.{Sexp, str, spell, Stands, StandsAll, nestings}
 use Rattle.sexp.specs.Past.{PastAt}
 use Rattle.sexp.specs.WordsAt.{Shared, NumberAt}
 use Rattle.sexp.proofs.AnswerLaws.{past-next}
-use Rattle.sexp.proofs.StandLaws.{stands-once, first-stands, others-stand, none-closes, no-closing}
+use Rattle.sexp.proofs.StandLaws.{stands-once, first-stands, others-stand, none-closes, more-stand, no-closing}
 use Rattle.packet.specs.Barred.{termOk, termsOk}
 use Rattle.packet.specs.File.{mostBytes}
 use Rattle.packet.specs.Written.{termSexp, termSexps, atomSexp}
@@ -49,7 +49,9 @@ use Rattle.unset.specs.declared.Forced.the-variants as F
 use Rattle.held.specs.Held.{Holding}
 use Rattle.unset.specs.Unset.{Small, MayBe, ForcedAs, Forces}
 use Rattle.unset.specs.Beside.{IsVariable, VariableIs, SameIs}
-use Rattle.unset.specs.Head.{DiffersAt, NoneOf, CandidateOf, CandidateAt, isVariable, VariableAt, Row}
+use Rattle.unset.specs.declared.Likeness.{Likeness}
+use Rattle.unset.specs.declared.Likeness.the-variants as L
+use Rattle.unset.specs.Head.{LikeAs, Comparing, DiffersAt, NoneOf, CandidateOf, CandidateAt, isVariable, VariableAt, Row}
 
 neither : (a b : Bool) → a || b ≡ false → (a ≡ false) × (b ≡ false)
 neither true b e = absurd (false≢true (sym e))
@@ -157,19 +159,33 @@ pub variable-is : (s : List ℕ) (at : ℕ) {p q : ℕ} {r : Bool} (w : Value) �
 variable-is s at Val.Nothing i h f j n t around S l few ok = tt
 variable-is s at (Val.Is k) i h f j n t around S l few ok = is-this k t (sym (variable-read s at k (Val.Is k) i h f j n refl t around S l few ok) ∙ eq-eqb k k refl)
 
--- whether a term differs for good
+-- a term beside another: one that holds no unset variable is compared for good
 module _ (f : Files) (room : List ℕ) (x y : Spot) (own : ℕ) where
+  pub compare-open : Comparing f room x y own L.Open
+  compare-open us t u C T U = tt
+
+  module _ {s : List ℕ} {h r : Bool} (q : s ≡ drop (x .at) (bytesAt f x)) (H : Holding s 0 0 64 (asked own (bindingsAt room x) false 0) h) (e : h ≡ false) (M : SameTerms (f .rules) (f .goal) (f .terms) room x y 128 r) where
+    for-good : (us : List Term) (t u : Term) → CandidatesIn room (f .terms) us → TermAt (f .rules) (f .goal) (f .terms) x t → TermAt (f .rules) (f .goal) (f .terms) y u
+        → (ds : Bindings) → Becomes us own (bindingsAt room x) ds → sameTerm (replaced us ds t) (replaced us (bindingsAt room y) u) ≡ r
+    for-good us t u C T U ds B =
+        let st = subst (λ (l : List ℕ). Stands l 0 (termSexp t)) (sym q) (part-stands (T .stands)) in
+        let none = sym (H .term t (T .holds) (x .count) st (T .shallow) (omega arith) (omega arith) (T .few) (T .ok)) ∙ e in
+        let n = replaced-nests us (C .shallow) (bindingsAt room x) t in
+        ap (λ (w : Term). sameTerm w (replaced us (bindingsAt room y) u)) (settled us own (bindingsAt room x) ds B t none)
+        ∙ sym (M us t u C T U (omega (arith, n, T .shallow)))
+
+    pub compare-same : r ≡ true → Comparing f room x y own L.Same
+    compare-same z us t u C T U ds B = for-good us t u C T U ds B ∙ z
+
+    pub compare-never : r ≡ false → Comparing f room x y own L.Never
+    compare-never z us t u C T U ds B = for-good us t u C T U ds B ∙ z
+
+  -- whether it differs for good
   pub differs-not : DiffersAt f room x y own false
   differs-not us t u C T U e ds B = absurd (false≢true e)
 
-  pub differs-yes : {s : List ℕ} {h r : Bool} → s ≡ drop (x .at) (bytesAt f x) → Holding s 0 0 64 (asked own (bindingsAt room x) false 0) h → h ≡ false
-      → SameTerms (f .rules) (f .goal) (f .terms) room x y 128 r → r ≡ false → DiffersAt f room x y own true
-  differs-yes {s} q H e M d us t u C T U z ds B =
-      let st = subst (λ (l : List ℕ). Stands l 0 (termSexp t)) (sym q) (part-stands (T .stands)) in
-      let none = sym (H .term t (T .holds) (x .count) st (T .shallow) (omega arith) (omega arith) (T .few) (T .ok)) ∙ e in
-      let n = replaced-nests us (C .shallow) (bindingsAt room x) t in
-      ap (λ (w : Term). sameTerm w (replaced us (bindingsAt room y) u)) (settled us own (bindingsAt room x) ds B t none)
-      ∙ sym (M us t u C T U (omega (arith, n, T .shallow))) ∙ d
+  pub differs-yes : {r : Likeness} → Comparing f room x y own r → r ≡ L.Never → DiffersAt f room x y own true
+  differs-yes D e us t u C T U z = subst (LikeAs us own (bindingsAt room x) t (replaced us (bindingsAt room y) u)) e (D us t u C T U)
 
 -- what is left of the arguments of a head b and an atom a, at the offsets p and q: frames that make the head the atom make them the same
 pub record Left (x y : Spot) (s t : List ℕ) (us : List Term) (b a : Atom) (p q : ℕ) : Type 0 where
@@ -188,17 +204,19 @@ LeftAt f room x y s t p q =
 abbrev pub PartsLeft : Files → List ℕ → Spot → List ℕ → List ℕ → ℕ → ℕ → Type 0
 PartsLeft f room y s t p q = (x : Spot) → s ≡ drop (x .at) (bytesAt f x) → LeftAt f room x y s t p q
 
--- an argument of a head b beside one of an atom a, at the offsets p and q: a frame that makes the head the atom makes them the same
-pub record Beside (f : Files) (room : List ℕ) (x y : Spot) (us : List Term) (b a : Atom) (p q : ℕ) : Type 0 where
+-- an argument of a head b beside one of an atom a, at the offsets p and q: a frame that makes the head the atom makes them the same. Each stands before whatever terms stand after it
+pub record Beside (f : Files) (room : List ℕ) (x y : Spot) (s t : List ℕ) (us : List Term) (b a : Atom) (p q : ℕ) : Type 0 where
   pub u : Term
   pub w : Term
+  pub before : {m : ℕ} {v : After} → v ≡ A.Next m → PastAt s p 64 v → (one : Terms) → Row (x .count) s m one → Row (x .count) s p (Terms.cons u one)
+  pub beyond : {m : ℕ} {v : After} → v ≡ A.Next m → PastAt t q 64 v → (two : Terms) → Row (y .count) t m two → Row (y .count) t q (Terms.cons w two)
   pub here : TermAt (f .rules) (f .goal) (f .terms) (further x p) u
   pub there : TermAt (f .rules) (f .goal) (f .terms) (further y q) w
   pub implied : (ds : Bindings) → sameAtom (replacedAtom us ds b) (replacedAtom us (bindingsAt room y) a) ≡ true → sameTerm (replaced us ds u) (replaced us (bindingsAt room y) w) ≡ true
 
 -- the arguments of an atom stand after its name
 module _ {f : Files} {x : Spot} {s : List ℕ} (n : Name) (ts : Terms) (X : AtomAt (f .rules) (f .goal) (f .terms) x (Atom.atom n ts)) (e : s ≡ drop (x .at) (bytesAt f x)) where
-  atom-here : Stands s 0 (atomSexp (Atom.atom n ts))
+  pub atom-here : Stands s 0 (atomSexp (Atom.atom n ts))
   atom-here = subst (λ (l : List ℕ). Stands l 0 (atomSexp (Atom.atom n ts))) (sym e) (part-stands (X .stands))
 
   pub row-after : (p : ℕ) → p ≡ 7 + length (spell (str n)) → Row (x .count) s p ts
@@ -234,6 +252,18 @@ row-next {around} {s} {p} t ts z a R =
       shallow = omega (arith, R .shallow);
       few = R .few;
       ok = both-true (termOk false around t) (termsOk false around ts) (R .ok) .1;
+    }
+
+-- a term before others
+row-back : {around : ℕ} {s : List ℕ} {p m : ℕ} {a : After} (t : Term) (ts us : Terms) → a ≡ A.Next m → PastAt s p 64 a → Row around s p (Terms.cons t ts) → Row around s m us → Row around s p (Terms.cons t us)
+row-back {around} {s} {p} t ts us z a R Q =
+    let E = past-next z a in
+    let end = E .ends ∙ ap (λ (y : Sexp). p + length (spell y)) (stands-once (E .stands) (first-stands (R .stands))) in
+    record {
+      stands = more-stand (first-stands (R .stands)) (subst (λ (j : ℕ). StandsAll s j (termSexps us)) end (Q .stands));
+      shallow = omega (arith, R .shallow, Q .shallow);
+      few = R .few;
+      ok = ap₂ _&&_ (both-true (termOk false around t) (termsOk false around ts) (R .ok) .0) (Q .ok);
     }
 
 -- where a row closes
@@ -324,12 +354,14 @@ module _ (f : Files) (room : List ℕ) (x y : Spot) {s t : List ℕ} (ex : s ≡
               record { u = u; w = w; one = one; two = two; here = R; there = R′; implied = λ ds es z. both-true (sameTerm (replaced us ds u) (replaced us es w)) (sameTerms (replaceds us ds one) (replaceds us es two)) (i ds es z) }
 
       -- they are beside each other
-      pub left-beside : (us : List Term) (b a : Atom) → Small f → CandidatesIn room (f .terms) us → AtomAt (f .rules) (f .goal) (f .terms) x b → AtomAt (f .rules) (f .goal) (f .terms) y a → Beside f room x y us b a p q
+      pub left-beside : (us : List Term) (b a : Atom) → Small f → CandidatesIn room (f .terms) us → AtomAt (f .rules) (f .goal) (f .terms) x b → AtomAt (f .rules) (f .goal) (f .terms) y a → Beside f room x y s t us b a p q
       left-beside us b a S C X Y =
           let l = firsts us b a (L us b a S C X Y) in
           record {
             u = l .u;
             w = l .w;
+            before = λ z v one R. row-back (l .u) (l .one) one z v (l .here) R;
+            beyond = λ z v two R. row-back (l .w) (l .two) two z v (l .there) R;
             here = term-there f x (l .u) (l .one) S ex refl (l .here);
             there = term-there f y (l .w) (l .two) S ey refl (l .there);
             implied = λ ds m. l .implied ds (bindingsAt room y) m .0;

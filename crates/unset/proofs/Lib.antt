@@ -1,2 +1,3 @@
 pub mod CandidateLaws
 pub mod HeadLaws
+pub mod WholeLaws

@@ -26,6 +26,20 @@ use Rattle.keys.specs.Key.{termKey}
 use Rattle.keys.specs.Keys.{CandidateKeys}
 use Rattle.unset.specs.declared.Forced.{Forced}
 use Rattle.unset.specs.declared.Forced.the-variants as F
+use Rattle.unset.specs.declared.Likeness.{Likeness}
+use Rattle.unset.specs.declared.Likeness.the-variants as L
+
+-- a term beside another: whatever the frame becomes it is another, or is the same; where that is open, nothing is said
+abbrev pub LikeAs : List Term → ℕ → Bindings → Term → Term → Likeness → Type 0
+LikeAs us own bs t w L.Never = (ds : Bindings) → Becomes us own bs ds → sameTerm (replaced us ds t) w ≡ false
+LikeAs us own bs t w L.Open = Unit {0}
+LikeAs us own bs t w L.Same = (ds : Bindings) → Becomes us own bs ds → sameTerm (replaced us ds t) w ≡ true
+
+-- the same of the terms at two spots
+abbrev pub Comparing : Files → List ℕ → Spot → Spot → ℕ → Likeness → Type 0
+Comparing f room x y own r =
+    (us : List Term) (t u : Term) → CandidatesIn room (f .terms) us → TermAt (f .rules) (f .goal) (f .terms) x t → TermAt (f .rules) (f .goal) (f .terms) y u
+    → LikeAs us own (bindingsAt room x) t (replaced us (bindingsAt room y) u) r
 
 -- a yes is a yes whatever the frame becomes: the term at the first spot is not the term at the second
 abbrev pub DiffersAt : Files → List ℕ → Spot → Spot → ℕ → Bool → Type 0

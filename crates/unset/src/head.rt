@@ -1,6 +1,7 @@
 // A head beside an atom, where the head's frame is not all set: whether it may still become the atom, and which candidate the atom forces on one of its variables.
 // An argument of the head that holds an unset variable decides nothing; any other is compared as it stands.
 use crate::Forced;
+use crate::Likeness;
 use equal::same_terms;
 use harrop::Binding;
 use held::holds;
@@ -23,10 +24,33 @@ ghost use mathlib.Core.Path.{_≡_};
 ghost use lib.ListN.{getD};
 ghost use Rattle.room.specs.Where.{filesOf};
 ghost use Rattle.unset.specs.Unset.{MayBe, Forces};
-ghost use Rattle.unset.specs.Head.{DiffersAt, candidateSpot, IsCandidate, LowestAt, BoundTo, CandidateAt, OpenAt, VariableAt};
+ghost use Rattle.unset.specs.Head.{Comparing, DiffersAt, candidateSpot, IsCandidate, LowestAt, BoundTo, CandidateAt, OpenAt, VariableAt};
 
-// Whether the term at the first spot differs for good from the term at the second: it holds no unset variable, and they are not the same.
-pub fn differs<'a>(
+// The term at the first spot beside the term at the second: while it holds an unset variable that is open.
+pub fn compare<'a>(
+    rules: &'a [u8],
+    goal: &'a [u8],
+    terms: &'a [u8],
+    room: &[u32],
+    x: Spot,
+    y: Spot,
+    own: usize,
+) -> Likeness
+    ensures { λ r. ⌜ Comparing (filesOf (now (rules .entry)) (now (goal .entry)) (now (terms .entry))) (now (room .entry)) x y own r ⌝ }
+{
+    let source = x.source;
+    let s = part(rules, goal, terms, source, x.at);
+    if holds(s, 0, 0, 64, room, x, own, false, 0) {
+        return Likeness::Open;
+    }
+    if same_terms(rules, goal, terms, room, x, y, 128) {
+        return Likeness::Same;
+    }
+    Likeness::Never
+}
+
+// Whether the term at the first spot differs for good from the term at the second.
+fn differs<'a>(
     rules: &'a [u8],
     goal: &'a [u8],
     terms: &'a [u8],
@@ -37,15 +61,11 @@ pub fn differs<'a>(
 ) -> bool
     ensures { λ r. ⌜ DiffersAt (filesOf (now (rules .entry)) (now (goal .entry)) (now (terms .entry))) (now (room .entry)) x y own r ⌝ }
 {
-    let source = x.source;
-    let s = part(rules, goal, terms, source, x.at);
-    if holds(s, 0, 0, 64, room, x, own, false, 0) {
-        return false;
+    match compare(rules, goal, terms, room, x, y, own) {
+        Likeness::Never => true,
+        Likeness::Open => false,
+        Likeness::Same => false,
     }
-    if same_terms(rules, goal, terms, room, x, y, 128) {
-        return false;
-    }
-    true
 }
 
 // Whether the head at the first spot may still become the atom at the second.

@@ -4,7 +4,7 @@ mod head;
 
 pub use beside::same_as;
 pub use head::candidate_at;
-pub use head::differs;
+pub use head::compare;
 pub use head::forced_by;
 pub use head::is_variable;
 pub use head::may_be;
@@ -15,4 +15,11 @@ pub enum Forced {
     Nothing,
     Candidate(u32),
     Never,
+}
+
+// A term beside another, or a head beside an atom, where variables of the first are not set: it is another whatever they become, it is the same whatever they become, or that is open.
+pub enum Likeness {
+    Never,
+    Open,
+    Same,
 }

@@ -1179,37 +1179,45 @@ start-unset-all-requires t c κs = search needs
 start-meet-requires : (t : ℕ) → start-lts.Need-meet-requires (unset-all-reads.Asked, unset-all-reads.Learnt, meet-reads.Asked, meet-reads.Learnt, body-below t, body.Post, fill-below t, fill.Post) (start-at t) start.Post
 start-meet-requires t c κs = search needs
 
+-- src/provable.rt:316:19
+start-enum-known-q : (t : ℕ) → start-lts.Need-enum-known-q (unset-all-reads.Asked, unset-all-reads.Learnt, meet-reads.Asked, meet-reads.Learnt, body-below t, body.Post, fill-below t, fill.Post) (start-at t) start.Post
+start-enum-known-q t c = search needs
+
+-- src/provable.rt:317:9
+start-enum-told : (t : ℕ) → start-lts.Need-enum-told (unset-all-reads.Asked, unset-all-reads.Learnt, meet-reads.Asked, meet-reads.Learnt, body-below t, body.Post, fill-below t, fill.Post) (start-at t) start.Post
+start-enum-told t c = search needs
+
 -- src/provable.rt:336:9
 start-same-length : (t : ℕ) → start-lts.Need-same-length (unset-all-reads.Asked, unset-all-reads.Learnt, meet-reads.Asked, meet-reads.Learnt, body-below t, body.Post, fill-below t, fill.Post) (start-at t) start.Post
-start-same-length t c = c .before .before .before .meet .kept .1 .1 .1 .0 ∙ c .before .before .before .before .before .before .before .unset-all .kept .0
+start-same-length t c = c .before .before .before .before .meet .kept .1 .1 .1 .0 ∙ c .before .before .before .before .before .before .before .before .unset-all .kept .0
 
 -- src/provable.rt:336:9
 start-returns : (t : ℕ) → start-lts.Need-returns (unset-all-reads.Asked, unset-all-reads.Learnt, meet-reads.Asked, meet-reads.Learnt, body-below t, body.Post, fill-below t, fill.Post) (start-at t) start.Post
-start-returns t c = filling.plain-settled (c .before .before .before .before .before .before .before .unset-all .ensures) (c .before .before .before .meet .ensures) (not-true (c .before .before .before .meet .result) (c .if1 .taken))
+start-returns t c = filling.plain-settled (c .before .before .before .before .before .before .before .before .unset-all .ensures) (c .before .before .before .before .meet .ensures) (c .enum-told .given .1)
 
 -- src/provable.rt:338:9
 start-body-requires : (t : ℕ) → start-lts.Need-body-requires (unset-all-reads.Asked, unset-all-reads.Learnt, meet-reads.Asked, meet-reads.Learnt, body-below t, body.Post, fill-below t, fill.Post) (start-at t) start.Post
-start-body-requires t c κs = (omega (arith, c .before .before .before .before .before .before .before .before .before .before .before .before .before .before .pre .0), tt)
+start-body-requires t c κs = (omega (arith, c .before .before .before .before .before .before .before .before .before .before .before .before .before .before .before .before .pre .0), tt)
 
 -- src/provable.rt:339:9
 start-same-length-2 : (t : ℕ) → start-lts.Need-same-length-2 (unset-all-reads.Asked, unset-all-reads.Learnt, meet-reads.Asked, meet-reads.Learnt, body-below t, body.Post, fill-below t, fill.Post) (start-at t) start.Post
-start-same-length-2 t c = c .before .before .before .body .kept .1 .1 .1 .0 ∙ (c .before .before .before .before .before .before .before .before .meet .kept .1 .1 .1 .0 ∙ c .before .before .before .before .before .before .before .before .before .before .before .before .unset-all .kept .0)
+start-same-length-2 t c = c .before .before .before .body .kept .1 .1 .1 .0 ∙ (c .before .before .before .before .before .before .before .before .before .before .meet .kept .1 .1 .1 .0 ∙ c .before .before .before .before .before .before .before .before .before .before .before .before .before .before .unset-all .kept .0)
 
 -- src/provable.rt:339:9
 start-returns-2 : (t : ℕ) → start-lts.Need-returns-2 (unset-all-reads.Asked, unset-all-reads.Learnt, meet-reads.Asked, meet-reads.Learnt, body-below t, body.Post, fill-below t, fill.Post) (start-at t) start.Post
-start-returns-2 t c = filling.plain-body (c .before .before .before .before .before .before .before .before .before .before .before .before .unset-all .ensures) (c .before .before .before .before .before .before .before .before .meet .ensures) (not-false (c .before .before .before .before .before .before .before .before .meet .result) (c .before .before .before .before .before .if1 .left)) (c .before .before .before .body .ensures) (not-true (c .before .before .before .body .result) (c .if2 .taken))
+start-returns-2 t c = filling.plain-body (c .before .before .before .before .before .before .before .before .before .before .before .before .before .before .unset-all .ensures) (c .before .before .before .before .before .before .before .before .before .before .meet .ensures) (c .before .before .before .before .before .before .q .given .1) (c .before .before .before .body .ensures) (not-true (c .before .before .before .body .result) (c .if1 .taken))
 
 -- src/provable.rt:341:5
 start-fill-requires : (t : ℕ) → start-lts.Need-fill-requires (unset-all-reads.Asked, unset-all-reads.Learnt, meet-reads.Asked, meet-reads.Learnt, body-below t, body.Post, fill-below t, fill.Post) (start-at t) start.Post
-start-fill-requires t c κs = (omega (arith, c .before .before .before .before .before .before .before .before .before .before .before .before .before .before .before .before .before .before .before .pre .0), tt)
+start-fill-requires t c κs = (omega (arith, c .before .before .before .before .before .before .before .before .before .before .before .before .before .before .before .before .before .before .before .before .before .pre .0), tt)
 
 -- src/provable.rt:323:1
 start-same-length-3 : (t : ℕ) → start-lts.Need-same-length-3 (unset-all-reads.Asked, unset-all-reads.Learnt, meet-reads.Asked, meet-reads.Learnt, body-below t, body.Post, fill-below t, fill.Post) (start-at t) start.Post
-start-same-length-3 t c = c .before .before .fill .kept .1 .1 .1 .0 ∙ (c .before .before .before .before .before .before .before .body .kept .1 .1 .1 .0 ∙ (c .before .before .before .before .before .before .before .before .before .before .before .before .meet .kept .1 .1 .1 .0 ∙ c .before .before .before .before .before .before .before .before .before .before .before .before .before .before .before .before .unset-all .kept .0))
+start-same-length-3 t c = c .before .before .fill .kept .1 .1 .1 .0 ∙ (c .before .before .before .before .before .before .before .body .kept .1 .1 .1 .0 ∙ (c .before .before .before .before .before .before .before .before .before .before .before .before .before .before .meet .kept .1 .1 .1 .0 ∙ c .before .before .before .before .before .before .before .before .before .before .before .before .before .before .before .before .before .before .unset-all .kept .0))
 
 -- src/provable.rt:323:1
 start-returns-3 : (t : ℕ) → start-lts.Need-returns-3 (unset-all-reads.Asked, unset-all-reads.Learnt, meet-reads.Asked, meet-reads.Learnt, body-below t, body.Post, fill-below t, fill.Post) (start-at t) start.Post
-start-returns-3 t c = filling.plain-goes (c .before .before .before .before .before .before .before .before .before .before .before .before .before .before .before .before .unset-all .ensures) (c .before .before .before .before .before .before .before .before .before .before .before .before .meet .ensures) (not-false (c .before .before .before .before .before .before .before .before .before .before .before .before .meet .result) (c .before .before .before .before .before .before .before .before .before .if1 .left)) (c .before .before .before .before .before .before .before .body .ensures) (not-false (c .before .before .before .before .before .before .before .body .result) (c .before .before .before .before .if2 .left)) (c .before .before .before .before .before .before .before .body .kept .1 .1 .1 .0) (c .before .before .fill .ensures)
+start-returns-3 t c = filling.plain-goes (c .before .before .before .before .before .before .before .before .before .before .before .before .before .before .before .before .before .before .unset-all .ensures) (c .before .before .before .before .before .before .before .before .before .before .before .before .before .before .meet .ensures) (c .before .before .before .before .before .before .before .before .before .before .q .given .1) (c .before .before .before .before .before .before .before .body .ensures) (not-false (c .before .before .before .before .before .before .before .body .result) (c .before .before .before .before .if1 .left)) (c .before .before .before .before .before .before .before .body .kept .1 .1 .1 .0) (c .before .before .fill .ensures)
 
 -- src/provable.rt:308:9
 through-returns : (t : ℕ) → through-lts.Need-returns (parts-of-reads.Asked, parts-of-reads.Learnt, start-below t, start.Post, has-head-reads.Asked, has-head-reads.Learnt, word-there-reads.Asked, word-there-reads.Learnt, fork-below t, fork.Post, each-below t, each.Post) (through-at t) through.Post
@@ -1985,6 +1993,8 @@ pub +ask+body+both+decide+each+fill+find-clause+fork+look+look-and+prove-all+pro
     start.Post
     (start-unset-all-requires t)
     (start-meet-requires t)
+    (start-enum-known-q t)
+    (start-enum-told t)
     (start-same-length t)
     (start-returns t)
     (start-body-requires t)

@@ -1,14 +1,13 @@
 -- `match_head` of src/matching.rt meets its contract. Assumes nothing.
 use Prim.Native.Nat.{_-_}
 use mathlib.Core.Bool.{true, false}
-use mathlib.Core.Path.{_≡_, refl, _∙_}
+use mathlib.Core.Path.{_≡_, refl, sym, _∙_}
 use lib.ListN.{length}
 use borrow.Author.Tests.{not-true, not-false}
 use Rattle.room.specs.Where.{filesOf}
 use Rattle.equal.proofs.RestLaws.{past-on}
-use Rattle.unset.proofs.HeadLaws.{LeftAt, may-be-no, left-one, left-short, left-next, left-end}
-use Rattle.proving.specs.Filling.{Settling}
-use Rattle.proving.proofs.SettleLaws.{settle-start, settle-may-be, settle-next}
+use Rattle.unset.proofs.HeadLaws.{LeftAt, may-be-no, left-one, left-short, left-next}
+use Rattle.proving.proofs.SettleLaws.{SettledTo, settle-open, settled-open, settle-never, settle-start, settle-lost, settle-stops, settle-next, settle-end}
 use native.Mathlib.Omega.{arith}
 use borrow.Author.Needs.{needs}
 use Rattle.proving.proofs.matching.match_head.Statement.{statement}
@@ -23,168 +22,140 @@ use Rattle.sexp.proofs.closes.Reads as closes-reads
 use Rattle.sexp.proofs.same_text.Reads as same-text-reads
 
 abbrev Inv-loop : tie.InvT-loop
-Inv-loop rules goal terms room₀ w p x y s t n i₀ j₀ room i j = (length room ≡ length room₀) × LeftAt (filesOf rules goal terms) room₀ (p .head) (w .goal) s t i j × Settling (filesOf rules goal terms) room₀ room w p true
+Inv-loop rules goal terms room₀ w p x y s t n i₀ j₀ sure₀ room i j sure = (length room ≡ length room₀) × LeftAt (filesOf rules goal terms) room₀ (p .head) (w .goal) s t i j × SettledTo (filesOf rules goal terms) room₀ room w p s t i j sure
 
 abbrev μ-loop : tie.MeasureT-loop
-μ-loop rules goal terms room₀ w p x y s t n i₀ j₀ room i j = length s - i
+μ-loop rules goal terms room₀ w p x y s t n i₀ j₀ sure₀ room i j sure = length s - i
 
--- src/matching.rt:85:9
 part-requires : tie.Need-part-requires Inv-loop μ-loop
 part-requires c κs = search needs
 
--- src/matching.rt:86:9
 part-requires-2 : tie.Need-part-requires-2 Inv-loop μ-loop
 part-requires-2 c κs = search needs
 
--- src/matching.rt:87:9
 same-text-requires : tie.Need-same-text-requires Inv-loop μ-loop
 same-text-requires c κs = search needs
 
--- src/matching.rt:88:9
 returns : tie.Need-returns Inv-loop μ-loop
 returns c = let x = c .before .before .before .before .before .before .before .before .before .before .args in
     let f = filesOf (x .rules .now) (x .goal .now) (x .terms .now) in
-    settle-may-be {f = f} {room = x .room .now} {w = x .w} {p = x .p} {now = x .room .now} false settle-start (may-be-no f (x .room .now) (x .p .head) (x .w .goal) (c .before .before .before .part .ensures) (c .before .before .part2 .ensures) (x .p .own) (c .before .same-text .ensures) (not-true (c .before .same-text .result) (c .if1 .taken)))
+    settle-never {f = f} {room = x .room .now} {w = x .w} {p = x .p} {now = x .room .now} settle-open (may-be-no f (x .room .now) (x .p .head) (x .w .goal) (c .before .before .before .part .ensures) (c .before .before .part2 .ensures) (x .p .own) (c .before .same-text .ensures) (not-true (c .before .same-text .result) (c .if1 .taken)))
 
--- src/matching.rt:90:26
 past-requires : tie.Need-past-requires Inv-loop μ-loop
 past-requires c κs = search needs
 
--- src/matching.rt:90:21
 enum-known-n : tie.Need-enum-known-n Inv-loop μ-loop
 enum-known-n c = search needs
 
--- src/matching.rt:91:9
 enum-told : tie.Need-enum-told Inv-loop μ-loop
 enum-told c = search needs
 
--- src/matching.rt:91:9
 returns-2 : tie.Need-returns-2 Inv-loop μ-loop
 returns-2 c = let x = c .before .before .before .before .before .before .before .before .before .before .before .before .before .args in
-    let f = filesOf (x .rules .now) (x .goal .now) (x .terms .now) in
-    settle-start {f = f} {room = x .room .now} {w = x .w} {p = x .p}
+    settle-open {f = filesOf (x .rules .now) (x .goal .now) (x .terms .now)} {room = x .room .now} {w = x .w} {p = x .p}
 
--- src/matching.rt:95:5
 loop-holds : tie.Need-loop-holds Inv-loop μ-loop
 loop-holds c = let x = c .before .before .before .before .before .before .before .before .before .before .before .before .before .before .args in
     let f = filesOf (x .rules .now) (x .goal .now) (x .terms .now) in
-    (refl, left-one f (x .room .now) (x .p .head) (x .w .goal) (c .before .before .before .before .before .before .before .part .ensures) (c .before .before .before .before .before .before .part2 .ensures) (c .before .before .before .before .before .same-text .ensures) (not-false (c .before .before .before .before .before .same-text .result) (c .before .before .before .before .if1 .left)) (c .before .before .before .past .ensures) (c .before .n .given .1), settle-start {f = f} {room = x .room .now} {w = x .w} {p = x .p})
+    let text = not-false (c .before .before .before .before .before .same-text .result) (c .before .before .before .before .if1 .left) in
+    (refl, left-one f (x .room .now) (x .p .head) (x .w .goal) (c .before .before .before .before .before .before .before .part .ensures) (c .before .before .before .before .before .before .part2 .ensures) (c .before .before .before .before .before .same-text .ensures) text (c .before .before .before .past .ensures) (c .before .n .given .1), settle-start {f = f} {room = x .room .now} {w = x .w} {p = x .p} (c .before .before .before .before .before .before .before .part .ensures) (c .before .before .before .before .before .before .part2 .ensures) (c .before .before .before .before .before .same-text .ensures) text (c .before .before .before .past .ensures) (c .before .n .given .1))
 
--- src/matching.rt:95:12
 closes-requires : tie.Need-closes-requires Inv-loop μ-loop
 closes-requires c κs = search needs
 
--- src/matching.rt:96:12
 closes-requires-2 : tie.Need-closes-requires-2 Inv-loop μ-loop
 closes-requires-2 c κs = search needs
 
--- src/matching.rt:97:13
 same-length : tie.Need-same-length Inv-loop μ-loop
 same-length c = c .before .before .before .before .loop .inv .0
 
--- src/matching.rt:97:13
 returns-3 : tie.Need-returns-3 Inv-loop μ-loop
 returns-3 c = let x = c .before .before .before .before .before .before .before .before .before .before .before .before .before .before .before .before .before .before .before .args in
     let f = filesOf (x .rules .now) (x .goal .now) (x .terms .now) in
     let l = c .before .before .before .before .loop in
-    settle-may-be {f = f} {room = x .room .now} {w = x .w} {p = x .p} {now = l .room} false (l .inv .2) (left-short f (x .room .now) (x .p .head) (x .w .goal) (c .before .before .before .before .before .before .before .before .before .before .before .before .part .ensures) (c .before .before .before .before .before .before .before .before .before .before .before .part2 .ensures) (l .i) (l .j) (l .inv .1) (x .p .own) (c .before .before .before .closes .ensures) (not-true (c .before .before .before .closes .result) (c .before .before .if2 .taken)) (c .before .closes2 .ensures) (c .if3 .taken))
+    settle-never {f = f} {room = x .room .now} {w = x .w} {p = x .p} {now = l .room} (settled-open (l .inv .2)) (left-short f (x .room .now) (x .p .head) (x .w .goal) (c .before .before .before .before .before .before .before .before .before .before .before .before .part .ensures) (c .before .before .before .before .before .before .before .before .before .before .before .part2 .ensures) (l .i) (l .j) (l .inv .1) (x .p .own) (c .before .before .before .closes .ensures) (not-true (c .before .before .before .closes .result) (c .before .before .if2 .taken)) (c .before .closes2 .ensures) (c .if3 .taken))
 
--- src/matching.rt:99:56
 further-requires : tie.Need-further-requires Inv-loop μ-loop
 further-requires c κs = search needs
 
--- src/matching.rt:99:71
 further-requires-2 : tie.Need-further-requires-2 Inv-loop μ-loop
 further-requires-2 c κs = search needs
 
--- src/matching.rt:99:13
 match-term-requires : tie.Need-match-term-requires Inv-loop μ-loop
 match-term-requires c κs = search needs
 
--- src/matching.rt:100:13
+is-never-requires : tie.Need-is-never-requires Inv-loop μ-loop
+is-never-requires c κs = search needs
+
 same-length-2 : tie.Need-same-length-2 Inv-loop μ-loop
-same-length-2 c = c .before .before .before .match-term .kept .1 .1 .1 .0 ∙ c .before .before .before .before .before .before .before .before .before .before .before .loop .inv .0
+same-length-2 c = c .before .before .before .before .match-term .kept .1 .1 .1 .0 ∙ c .before .before .before .before .before .before .before .before .before .before .before .before .loop .inv .0
 
--- src/matching.rt:100:13
 returns-4 : tie.Need-returns-4 Inv-loop μ-loop
-returns-4 c = let x = c .before .before .before .before .before .before .before .before .before .before .before .before .before .before .before .before .before .before .before .before .before .before .before .before .before .before .args in
-    let f = filesOf (x .rules .now) (x .goal .now) (x .terms .now) in
-    let l = c .before .before .before .before .before .before .before .before .before .before .before .loop in
-    settle-next {f = f} {room = x .room .now} {w = x .w} {p = x .p} {now = l .room} {after = c .before .before .before .match-term .last .1 .1 .1 .0} (l .i) (l .j) false (c .before .before .before .before .before .before .before .before .before .before .before .before .before .before .before .before .before .before .before .part .ensures) (c .before .before .before .before .before .before .before .before .before .before .before .before .before .before .before .before .before .before .part2 .ensures) (l .inv .1) (c .before .before .before .before .before .before .before .before .before .before .closes .ensures) (not-true (c .before .before .before .before .before .before .before .before .before .before .closes .result) (c .before .before .before .before .before .before .before .before .before .if2 .taken)) (c .before .before .before .before .before .before .before .before .closes2 .ensures) (c .before .before .before .before .before .before .before .if3 .left) (l .inv .2) (c .before .before .before .before .before .further .ensures) (c .before .before .before .before .further2 .ensures) (c .before .before .before .match-term .ensures) (not-true (c .before .before .before .match-term .result) (c .if4 .taken))
+returns-4 c = let x = c .before .before .before .before .before .before .before .before .before .before .before .before .before .before .before .before .before .before .before .before .before .before .before .before .before .before .before .args in
+    let l = c .before .before .before .before .before .before .before .before .before .before .before .before .loop in
+    settle-lost {f = filesOf (x .rules .now) (x .goal .now) (x .terms .now)} {room = x .room .now} {w = x .w} {p = x .p} (c .before .before .before .before .before .before .before .before .before .before .before .before .before .before .before .before .before .before .before .before .part .ensures) (c .before .before .before .before .before .before .before .before .before .before .before .before .before .before .before .before .before .before .before .part2 .ensures) {now = l .room} (l .i) (l .j) (l .inv .1) {sure = l .sure} (l .inv .2) {after = c .before .before .before .before .match-term .last .1 .1 .1 .0} (c .before .before .before .before .before .before .before .before .before .before .before .closes .ensures) (not-true (c .before .before .before .before .before .before .before .before .before .before .before .closes .result) (c .before .before .before .before .before .before .before .before .before .before .if2 .taken)) (c .before .before .before .before .before .before .before .before .before .closes2 .ensures) (c .before .before .before .before .before .before .before .before .if3 .left) (c .before .before .before .before .before .before .further .ensures) (c .before .before .before .before .before .further2 .ensures) (c .before .before .before .before .match-term .ensures) (sym (c .before .is-never .ensures) ∙ c .if4 .taken)
 
--- src/matching.rt:102:30
+still-requires : tie.Need-still-requires Inv-loop μ-loop
+still-requires c κs = search needs
+
 past-requires-2 : tie.Need-past-requires-2 Inv-loop μ-loop
 past-requires-2 c κs = search needs
 
--- src/matching.rt:102:25
 enum-known-m : tie.Need-enum-known-m Inv-loop μ-loop
 enum-known-m c = search needs
 
--- src/matching.rt:103:13
 enum-told-2 : tie.Need-enum-told-2 Inv-loop μ-loop
 enum-told-2 c = search needs
 
--- src/matching.rt:103:13
 same-length-3 : tie.Need-same-length-3 Inv-loop μ-loop
-same-length-3 c = c .before .before .before .before .before .before .match-term .kept .1 .1 .1 .0 ∙ c .before .before .before .before .before .before .before .before .before .before .before .before .before .before .loop .inv .0
+same-length-3 c = c .before .before .before .before .before .before .before .before .match-term .kept .1 .1 .1 .0 ∙ c .before .before .before .before .before .before .before .before .before .before .before .before .before .before .before .before .loop .inv .0
 
--- src/matching.rt:103:13
 returns-5 : tie.Need-returns-5 Inv-loop μ-loop
-returns-5 c = let x = c .before .before .before .before .before .before .before .before .before .before .before .before .before .before .before .before .before .before .before .before .before .before .before .before .before .before .before .before .before .args in
-    let f = filesOf (x .rules .now) (x .goal .now) (x .terms .now) in
-    let l = c .before .before .before .before .before .before .before .before .before .before .before .before .before .before .loop in
-    settle-next {f = f} {room = x .room .now} {w = x .w} {p = x .p} {now = l .room} {after = c .before .before .before .before .before .before .match-term .last .1 .1 .1 .0} (l .i) (l .j) true (c .before .before .before .before .before .before .before .before .before .before .before .before .before .before .before .before .before .before .before .before .before .before .part .ensures) (c .before .before .before .before .before .before .before .before .before .before .before .before .before .before .before .before .before .before .before .before .before .part2 .ensures) (l .inv .1) (c .before .before .before .before .before .before .before .before .before .before .before .before .before .closes .ensures) (not-true (c .before .before .before .before .before .before .before .before .before .before .before .before .before .closes .result) (c .before .before .before .before .before .before .before .before .before .before .before .before .if2 .taken)) (c .before .before .before .before .before .before .before .before .before .before .before .closes2 .ensures) (c .before .before .before .before .before .before .before .before .before .before .if3 .left) (l .inv .2) (c .before .before .before .before .before .before .before .before .further .ensures) (c .before .before .before .before .before .before .before .further2 .ensures) (c .before .before .before .before .before .before .match-term .ensures) (not-false (c .before .before .before .before .before .before .match-term .result) (c .before .before .before .if4 .left))
+returns-5 c = let x = c .before .before .before .before .before .before .before .before .before .before .before .before .before .before .before .before .before .before .before .before .before .before .before .before .before .before .before .before .before .before .before .args in
+    let l = c .before .before .before .before .before .before .before .before .before .before .before .before .before .before .before .before .loop in
+    settle-stops {f = filesOf (x .rules .now) (x .goal .now) (x .terms .now)} {room = x .room .now} {w = x .w} {p = x .p} (c .before .before .before .before .before .before .before .before .before .before .before .before .before .before .before .before .before .before .before .before .before .before .before .before .part .ensures) (c .before .before .before .before .before .before .before .before .before .before .before .before .before .before .before .before .before .before .before .before .before .before .before .part2 .ensures) {now = l .room} (l .i) (l .j) (l .inv .1) {sure = l .sure} (l .inv .2) {after = c .before .before .before .before .before .before .before .before .match-term .last .1 .1 .1 .0} (c .before .before .before .before .before .before .before .before .before .before .before .before .before .before .before .closes .ensures) (not-true (c .before .before .before .before .before .before .before .before .before .before .before .before .before .before .before .closes .result) (c .before .before .before .before .before .before .before .before .before .before .before .before .before .before .if2 .taken)) (c .before .before .before .before .before .before .before .before .before .before .before .before .before .closes2 .ensures) (c .before .before .before .before .before .before .before .before .before .before .before .before .if3 .left) (c .before .before .before .before .before .before .before .before .before .before .further .ensures) (c .before .before .before .before .before .before .before .before .before .further2 .ensures) (c .before .before .before .before .before .before .before .before .match-term .ensures) (sym (c .before .before .before .before .before .is-never .ensures) ∙ c .before .before .before .before .if4 .left)
 
--- src/matching.rt:105:30
 past-requires-3 : tie.Need-past-requires-3 Inv-loop μ-loop
 past-requires-3 c κs = search needs
 
--- src/matching.rt:105:25
 enum-known-k : tie.Need-enum-known-k Inv-loop μ-loop
 enum-known-k c = search needs
 
--- src/matching.rt:106:13
 enum-told-3 : tie.Need-enum-told-3 Inv-loop μ-loop
 enum-told-3 c = search needs
 
--- src/matching.rt:106:13
 same-length-4 : tie.Need-same-length-4 Inv-loop μ-loop
-same-length-4 c = c .before .before .before .before .before .before .before .before .before .before .match-term .kept .1 .1 .1 .0 ∙ c .before .before .before .before .before .before .before .before .before .before .before .before .before .before .before .before .before .before .loop .inv .0
+same-length-4 c = c .before .before .before .before .before .before .before .before .before .before .before .before .match-term .kept .1 .1 .1 .0 ∙ c .before .before .before .before .before .before .before .before .before .before .before .before .before .before .before .before .before .before .before .before .loop .inv .0
 
--- src/matching.rt:106:13
 returns-6 : tie.Need-returns-6 Inv-loop μ-loop
-returns-6 c = let x = c .before .before .before .before .before .before .before .before .before .before .before .before .before .before .before .before .before .before .before .before .before .before .before .before .before .before .before .before .before .before .before .before .before .args in
-    let f = filesOf (x .rules .now) (x .goal .now) (x .terms .now) in
-    let l = c .before .before .before .before .before .before .before .before .before .before .before .before .before .before .before .before .before .before .loop in
-    settle-next {f = f} {room = x .room .now} {w = x .w} {p = x .p} {now = l .room} {after = c .before .before .before .before .before .before .before .before .before .before .match-term .last .1 .1 .1 .0} (l .i) (l .j) true (c .before .before .before .before .before .before .before .before .before .before .before .before .before .before .before .before .before .before .before .before .before .before .before .before .before .before .part .ensures) (c .before .before .before .before .before .before .before .before .before .before .before .before .before .before .before .before .before .before .before .before .before .before .before .before .before .part2 .ensures) (l .inv .1) (c .before .before .before .before .before .before .before .before .before .before .before .before .before .before .before .before .before .closes .ensures) (not-true (c .before .before .before .before .before .before .before .before .before .before .before .before .before .before .before .before .before .closes .result) (c .before .before .before .before .before .before .before .before .before .before .before .before .before .before .before .before .if2 .taken)) (c .before .before .before .before .before .before .before .before .before .before .before .before .before .before .before .closes2 .ensures) (c .before .before .before .before .before .before .before .before .before .before .before .before .before .before .if3 .left) (l .inv .2) (c .before .before .before .before .before .before .before .before .before .before .before .before .further .ensures) (c .before .before .before .before .before .before .before .before .before .before .before .further2 .ensures) (c .before .before .before .before .before .before .before .before .before .before .match-term .ensures) (not-false (c .before .before .before .before .before .before .before .before .before .before .match-term .result) (c .before .before .before .before .before .before .before .if4 .left))
+returns-6 c = let x = c .before .before .before .before .before .before .before .before .before .before .before .before .before .before .before .before .before .before .before .before .before .before .before .before .before .before .before .before .before .before .before .before .before .before .before .args in
+    let l = c .before .before .before .before .before .before .before .before .before .before .before .before .before .before .before .before .before .before .before .before .loop in
+    settle-stops {f = filesOf (x .rules .now) (x .goal .now) (x .terms .now)} {room = x .room .now} {w = x .w} {p = x .p} (c .before .before .before .before .before .before .before .before .before .before .before .before .before .before .before .before .before .before .before .before .before .before .before .before .before .before .before .before .part .ensures) (c .before .before .before .before .before .before .before .before .before .before .before .before .before .before .before .before .before .before .before .before .before .before .before .before .before .before .before .part2 .ensures) {now = l .room} (l .i) (l .j) (l .inv .1) {sure = l .sure} (l .inv .2) {after = c .before .before .before .before .before .before .before .before .before .before .before .before .match-term .last .1 .1 .1 .0} (c .before .before .before .before .before .before .before .before .before .before .before .before .before .before .before .before .before .before .before .closes .ensures) (not-true (c .before .before .before .before .before .before .before .before .before .before .before .before .before .before .before .before .before .before .before .closes .result) (c .before .before .before .before .before .before .before .before .before .before .before .before .before .before .before .before .before .before .if2 .taken)) (c .before .before .before .before .before .before .before .before .before .before .before .before .before .before .before .before .before .closes2 .ensures) (c .before .before .before .before .before .before .before .before .before .before .before .before .before .before .before .before .if3 .left) (c .before .before .before .before .before .before .before .before .before .before .before .before .before .before .further .ensures) (c .before .before .before .before .before .before .before .before .before .before .before .before .before .further2 .ensures) (c .before .before .before .before .before .before .before .before .before .before .before .before .match-term .ensures) (sym (c .before .before .before .before .before .before .before .before .before .is-never .ensures) ∙ c .before .before .before .before .before .before .before .before .if4 .left)
 
--- src/matching.rt:95:5
 loop-less : tie.Need-loop-less Inv-loop μ-loop
-loop-less c = let l = c .before .before .before .before .before .before .before .before .before .before .before .before .before .before .before .before .before .before .before .loop in
-    let h = past-on (c .before .before .before .before .before .before .before .before .before .before .before .before .before .before .before .before .before .before .before .before .before .before .before .before .before .before .before .part .result .now) (l .i) 64 (c .before .before .before .before .before .m .given .1) (c .before .before .before .before .before .before .before .past2 .ensures) in
+loop-less c = let h = past-on (c .before .before .before .before .before .before .before .before .before .before .before .before .before .before .before .before .before .before .before .before .before .before .before .before .before .before .before .before .before .part .result .now) (c .before .before .before .before .before .before .before .before .before .before .before .before .before .before .before .before .before .before .before .before .before .loop .i) 64 (c .before .before .before .before .before .m .given .1) (c .before .before .before .before .before .before .before .past2 .ensures) in
     omega (arith, h .0, h .1)
 
--- src/matching.rt:95:5
 loop-again : tie.Need-loop-again Inv-loop μ-loop
-loop-again c = let x = c .before .before .before .before .before .before .before .before .before .before .before .before .before .before .before .before .before .before .before .before .before .before .before .before .before .before .before .before .before .before .before .before .before .before .args in
+loop-again c = let x = c .before .before .before .before .before .before .before .before .before .before .before .before .before .before .before .before .before .before .before .before .before .before .before .before .before .before .before .before .before .before .before .before .before .before .before .before .args in
     let f = filesOf (x .rules .now) (x .goal .now) (x .terms .now) in
-    let l = c .before .before .before .before .before .before .before .before .before .before .before .before .before .before .before .before .before .before .before .loop in
-    (c .before .before .before .before .before .before .before .before .before .before .before .match-term .kept .1 .1 .1 .0 ∙ c .before .before .before .before .before .before .before .before .before .before .before .before .before .before .before .before .before .before .before .loop .inv .0, left-next f (x .room .now) (x .p .head) (x .w .goal) (c .before .before .before .before .before .before .before .before .before .before .before .before .before .before .before .before .before .before .before .before .before .before .before .before .before .before .before .part .ensures) (c .before .before .before .before .before .before .before .before .before .before .before .before .before .before .before .before .before .before .before .before .before .before .before .before .before .before .part2 .ensures) (l .i) (l .j) (l .inv .1) (c .before .before .before .before .before .before .before .before .before .before .before .before .before .before .before .before .before .before .closes .ensures) (not-true (c .before .before .before .before .before .before .before .before .before .before .before .before .before .before .before .before .before .before .closes .result) (c .before .before .before .before .before .before .before .before .before .before .before .before .before .before .before .before .before .if2 .taken)) (c .before .before .before .before .before .before .before .before .before .before .before .before .before .before .before .before .closes2 .ensures) (c .before .before .before .before .before .before .before .before .before .before .before .before .before .before .before .if3 .left) (c .before .before .before .before .before .m .given .1) (c .before .before .before .before .before .before .before .past2 .ensures) (c .before .k .given .1) (c .before .before .before .past3 .ensures), settle-next {f = f} {room = x .room .now} {w = x .w} {p = x .p} {now = l .room} {after = c .before .before .before .before .before .before .before .before .before .before .before .match-term .last .1 .1 .1 .0} (l .i) (l .j) true (c .before .before .before .before .before .before .before .before .before .before .before .before .before .before .before .before .before .before .before .before .before .before .before .before .before .before .before .part .ensures) (c .before .before .before .before .before .before .before .before .before .before .before .before .before .before .before .before .before .before .before .before .before .before .before .before .before .before .part2 .ensures) (l .inv .1) (c .before .before .before .before .before .before .before .before .before .before .before .before .before .before .before .before .before .before .closes .ensures) (not-true (c .before .before .before .before .before .before .before .before .before .before .before .before .before .before .before .before .before .before .closes .result) (c .before .before .before .before .before .before .before .before .before .before .before .before .before .before .before .before .before .if2 .taken)) (c .before .before .before .before .before .before .before .before .before .before .before .before .before .before .before .before .closes2 .ensures) (c .before .before .before .before .before .before .before .before .before .before .before .before .before .before .before .if3 .left) (l .inv .2) (c .before .before .before .before .before .before .before .before .before .before .before .before .before .further .ensures) (c .before .before .before .before .before .before .before .before .before .before .before .before .further2 .ensures) (c .before .before .before .before .before .before .before .before .before .before .before .match-term .ensures) (not-false (c .before .before .before .before .before .before .before .before .before .before .before .match-term .result) (c .before .before .before .before .before .before .before .before .if4 .left)))
+    let l = c .before .before .before .before .before .before .before .before .before .before .before .before .before .before .before .before .before .before .before .before .before .loop in
+    let going = not-true (c .before .before .before .before .before .before .before .before .before .before .before .before .before .before .before .before .before .before .before .before .closes .result) (c .before .before .before .before .before .before .before .before .before .before .before .before .before .before .before .before .before .before .before .if2 .taken) in
+    (c .before .before .before .before .before .before .before .before .before .before .before .before .before .match-term .kept .1 .1 .1 .0 ∙ l .inv .0, left-next f (x .room .now) (x .p .head) (x .w .goal) (c .before .before .before .before .before .before .before .before .before .before .before .before .before .before .before .before .before .before .before .before .before .before .before .before .before .before .before .before .before .part .ensures) (c .before .before .before .before .before .before .before .before .before .before .before .before .before .before .before .before .before .before .before .before .before .before .before .before .before .before .before .before .part2 .ensures) (l .i) (l .j) (l .inv .1) (c .before .before .before .before .before .before .before .before .before .before .before .before .before .before .before .before .before .before .before .before .closes .ensures) going (c .before .before .before .before .before .before .before .before .before .before .before .before .before .before .before .before .before .before .closes2 .ensures) (c .before .before .before .before .before .before .before .before .before .before .before .before .before .before .before .before .before .if3 .left) (c .before .before .before .before .before .m .given .1) (c .before .before .before .before .before .before .before .past2 .ensures) (c .before .k .given .1) (c .before .before .before .past3 .ensures), settle-next {f = f} {room = x .room .now} {w = x .w} {p = x .p} (c .before .before .before .before .before .before .before .before .before .before .before .before .before .before .before .before .before .before .before .before .before .before .before .before .before .before .before .before .before .part .ensures) (c .before .before .before .before .before .before .before .before .before .before .before .before .before .before .before .before .before .before .before .before .before .before .before .before .before .before .before .before .part2 .ensures) {now = l .room} (l .i) (l .j) (l .inv .1) {sure = l .sure} (l .inv .2) {after = c .before .before .before .before .before .before .before .before .before .before .before .before .before .match-term .last .1 .1 .1 .0} (c .before .before .before .before .before .before .before .before .before .before .before .before .before .before .before .before .before .before .before .before .closes .ensures) going (c .before .before .before .before .before .before .before .before .before .before .before .before .before .before .before .before .before .before .closes2 .ensures) (c .before .before .before .before .before .before .before .before .before .before .before .before .before .before .before .before .before .if3 .left) (c .before .before .before .before .before .before .before .before .before .before .before .before .before .before .before .further .ensures) (c .before .before .before .before .before .before .before .before .before .before .before .before .before .before .further2 .ensures) (c .before .before .before .before .before .before .before .before .before .before .before .before .before .match-term .ensures) (sym (c .before .before .before .before .before .before .before .before .before .before .is-never .ensures) ∙ c .before .before .before .before .before .before .before .before .before .if4 .left) (c .before .before .before .before .before .before .before .before .still .ensures) (c .before .before .before .before .before .m .given .1) (c .before .before .before .before .before .before .before .past2 .ensures) (c .before .k .given .1) (c .before .before .before .past3 .ensures))
 
--- src/matching.rt:111:5
 closes-requires-3 : tie.Need-closes-requires-3 Inv-loop μ-loop
 closes-requires-3 c κs = search needs
 
--- src/matching.rt:71:1
-same-length-5 : tie.Need-same-length-5 Inv-loop μ-loop
-same-length-5 c = c .before .before .before .loop .inv .0
+at-end-requires : tie.Need-at-end-requires Inv-loop μ-loop
+at-end-requires c κs = search needs
 
--- src/matching.rt:71:1
+same-length-5 : tie.Need-same-length-5 Inv-loop μ-loop
+same-length-5 c = c .before .before .before .before .loop .inv .0
+
 returns-7 : tie.Need-returns-7 Inv-loop μ-loop
-returns-7 c = let x = c .before .before .before .before .before .before .before .before .before .before .before .before .before .before .before .before .before .before .args in
-    let f = filesOf (x .rules .now) (x .goal .now) (x .terms .now) in
-    let l = c .before .before .before .loop in
-    settle-may-be {f = f} {room = x .room .now} {w = x .w} {p = x .p} {now = l .room} (c .closes3 .result) (l .inv .2) (left-end f (x .room .now) (x .p .head) (x .w .goal) (c .before .before .before .before .before .before .before .before .before .before .before .part .ensures) (c .before .before .before .before .before .before .before .before .before .before .part2 .ensures) (l .i) (l .j) (l .inv .1) (x .p .own) (c .before .before .closes .ensures) (not-false (c .before .before .closes .result) (c .before .if2 .left)) (c .closes3 .ensures))
+returns-7 c = let x = c .before .before .before .before .before .before .before .before .before .before .before .before .before .before .before .before .before .before .before .args in
+    let l = c .before .before .before .before .loop in
+    settle-end {f = filesOf (x .rules .now) (x .goal .now) (x .terms .now)} {room = x .room .now} {w = x .w} {p = x .p} (c .before .before .before .before .before .before .before .before .before .before .before .before .part .ensures) (c .before .before .before .before .before .before .before .before .before .before .before .part2 .ensures) {now = l .room} (l .i) (l .j) (l .inv .1) {sure = l .sure} (l .inv .2) (c .before .closes3 .result) (c .before .before .before .closes .ensures) (not-false (c .before .before .before .closes .result) (c .before .before .if2 .left)) (c .before .closes3 .ensures) (c .at-end .ensures)
 
 pub match-head-spec : {M : Type 1} → statement M
 match-head-spec =
@@ -208,8 +179,10 @@ match-head-spec =
     further-requires
     further-requires-2
     match-term-requires
+    is-never-requires
     same-length-2
     returns-4
+    still-requires
     past-requires-2
     enum-known-m
     enum-told-2
@@ -223,5 +196,6 @@ match-head-spec =
     loop-less
     loop-again
     closes-requires-3
+    at-end-requires
     same-length-5
     returns-7)

@@ -8,7 +8,7 @@ use Rattle.proving.proofs.matching.match_term.Tie as tie
 use Rattle.proving.proofs.matching.match_term.Reads as reads
 use Rattle.proving.proofs.matching.match_term.Lts as lts
 use Rattle.proving.proofs.matching.force.Reads as force-reads
-use Rattle.unset.proofs.differs.Reads as differs-reads
+use Rattle.unset.proofs.compare.Reads as compare-reads
 use Rattle.unset.proofs.open_at.Reads as open-at-reads
 
 -- src/matching.rt:64:11
@@ -28,8 +28,8 @@ enum-told : tie.Need-enum-told
 enum-told c = search needs
 
 -- src/matching.rt:66:28
-differs-requires : tie.Need-differs-requires
-differs-requires c κs = search needs
+compare-requires : tie.Need-compare-requires
+compare-requires c κs = search needs
 
 -- src/matching.rt:52:1
 same-length : tie.Need-same-length
@@ -47,7 +47,7 @@ same-length-2 c = search needs
 -- src/matching.rt:52:1
 returns-2 : tie.Need-returns-2
 returns-2 c = let x = c .before .before .before .before .before .before .before .before .before .before .args in
-    match-compared {f = filesOf (x .rules .now) (x .goal .now) (x .terms .now)} {room = x .room .now} {w = x .w} {p = x .p} {x = x .x} {y = x .y} (c .differs .result) (c .differs .ensures)
+    match-compared {f = filesOf (x .rules .now) (x .goal .now) (x .terms .now)} {room = x .room .now} {w = x .w} {p = x .p} {x = x .x} {y = x .y} (c .compare .result) (c .compare .ensures)
 
 pub match-term-spec : {M : Type 1} → statement M
 match-term-spec =
@@ -57,7 +57,7 @@ match-term-spec =
     enum-known-v
     force-requires
     enum-told
-    differs-requires
+    compare-requires
     same-length
     returns
     same-length-2
