@@ -1,12 +1,12 @@
 -- The tables of numbers in the room, word by word: nothing else of the room is written, and the numbers are those of the candidates and the rules.
-use Prim.Native.Nat.{ℕ, _+_, _≤_, _<_}
+use Prim.Native.Nat.{ℕ, _+_, _≤_, _<_, min}
 use mathlib.Core.Path.{_≡_, refl, sym, _∙_, ap, subst}
 use mathlib.Core.Bool.{Bool, true, false}
 use mathlib.Core.List.{List, []}
 use mathlib.Core.Option.{some}
 use native.Mathlib.Omega.{arith}
 use lib.Dec.{ltb}
-use lib.ListN.{length, getD, set, getElem?, length-set}
+use lib.ListN.{length, getD, set, getElem?}
 use lib.Seq.{getD-set-same, getD-set-other}
 use borrow.Author.Tests.{ltb-true, ltb-false}
 use Rattle.harrop.specs.Formula.{Term, Clause}
@@ -15,27 +15,17 @@ use Rattle.harrop.proofs.ListLaws.{member-below}
 use Rattle.packet.specs.Written.{termSexp, clauseSexp}
 use Rattle.packet.specs.Barred.{termOk, clauseOk}
 use Rattle.sexp.specs.Sexp.{Stands, nesting}
-use Rattle.room.specs.Layout.{words, levels, ruleWord, candidateWord}
+use Rattle.room.specs.Layout.{words, levels, rulesWord, ruleWord, candidatesWord, candidateWord}
 use Rattle.room.specs.Spot.{bindingsAt, nowhere}
 use Rattle.room.specs.Where.{filesOf, Booked}
 use Rattle.room.specs.declared.Spot.{Spot}
 use Rattle.equal.proofs.TermLaws.{closed-stays}
 use Rattle.keys.specs.Key.{termKey, clauseKey}
 use Rattle.keys.specs.Walk.{keptWord, TermAtKey, ClauseAt}
-use Rattle.keys.specs.Chains.{linkWord, chainsEnd, listedRules, Chained, Within, ChainsFilled}
-use Rattle.keys.specs.Keys.{keyWord, keysEnd, CandidatesDone, RulesDone, CandidatesKept, RulesKept, KeysFilled}
+use Rattle.keys.specs.Chains.{linkAt, firstAt, Chained, Within, ChainsFilled}
+use Rattle.keys.specs.Keys.{keyWord, keysEnd, ruleChains, candidateChains, CandidateKeys, CandidatesDone, RulesDone, CandidatesKept, RulesKept, KeysFilled}
 use Rattle.keys.proofs.WalkLaws.{keyed-none}
-
--- one word more, between two
-pub within-none : (before : List ℕ) (from to : ℕ) → Within before before from to
-within-none before from to = record { long = refl; below = λ j l. refl; above = λ j l. refl }
-
-pub within-more : (before now : List ℕ) (from to i w : ℕ) → Within before now from to → from ≤ i → i < to → Within before (set now i w) from to
-within-more before now from to i w H l m = record {
-  long = length-set now i w ∙ H .long;
-  below = λ j k. getD-set-other now i j w 0 (omega arith) ∙ H .below j k;
-  above = λ j k. getD-set-other now i j w 0 (omega arith) ∙ H .above j k;
-}
+use Rattle.keys.proofs.ChainLaws.{within-none, within-more, chained-kept}
 
 -- the numbers of candidates
 pub candidates-none : (before terms : List ℕ) → CandidatesDone before before terms 0
@@ -86,20 +76,24 @@ rules-more before rules {now} {after} {i} a k H l e G f = subst (λ (r : List �
             ap (λ (z : ℕ). getD (set now (3200 + i) k) (3200 + z) 0) ji ∙ getD-set-same now (3200 + i) k 0 (omega (arith, H .within .long, l, r)) ∙ made
 
 -- both tables, and the chains
-pub keys-filled : (before mid kept after rules terms : List ℕ) → CandidatesKept before mid terms → RulesKept mid kept rules → ChainsFilled kept after → KeysFilled before after rules terms
-keys-filled before mid kept after rules terms C D F = record {
+pub keys-filled : {n m : ℕ} (before mid kept rows after rules terms : List ℕ) → CandidatesKept before mid terms → RulesKept mid kept rules → n ≡ getD kept rulesWord 0 → ChainsFilled (keyWord 0) ruleChains n kept rows
+    → m ≡ getD rows candidatesWord 0 → ChainsFilled (keptWord 0) candidateChains m rows after → KeysFilled before after rules terms
+keys-filled {n} {m} before mid kept rows after rules terms C D e F e′ G = record {
   within = record {
-    long = F .within .long ∙ D .within .long ∙ C .within .long;
-    below = λ j l. F .within .below j (omega (arith, l)) ∙ D .within .below j l ∙ C .within .below j (omega (arith, l));
-    above = λ j l. F .within .above j l ∙ D .within .above j (omega (arith, l)) ∙ C .within .above j (omega (arith, l));
+    long = G .within .long ∙ F .within .long ∙ D .within .long ∙ C .within .long;
+    below = λ j l. later j (omega (arith, l)) ∙ D .within .below j l ∙ C .within .below j (omega (arith, l));
+    above = λ j l. G .within .above j l ∙ F .within .above j (omega (arith, l)) ∙ D .within .above j (omega (arith, l)) ∙ C .within .above j (omega (arith, l));
   };
-  right = λ l goal ds cs B. record { rules = rule l goal ds cs B; candidates = candidate l goal ds cs B; chains = chains l goal ds cs B };
+  right = λ l goal ds cs B. record { rules = rule l goal ds cs B; candidates = record { numbers = candidate l goal ds cs B; chains = candidate-chains l goal ds cs B }; chains = rule-chains l goal ds cs B };
 }
   where
+    later : (j : ℕ) → j < ruleChains → getD after j 0 ≡ getD kept j 0
+    later j l = G .within .below j (omega (arith, l)) ∙ F .within .below j l
+
     rule : words ≤ length before → (goal : List ℕ) (ds : List (Clause Plain)) (cs : List Term) → Booked (filesOf rules goal terms) before ds cs → (k : ℕ) (d : Clause Plain) → getElem? ds k ≡ some d → getD after (keyWord k) 0 ≡ clauseKey d
     rule l goal ds cs B k d e =
         let m = member-below ds k d e in
-        F .within .below (3200 + k) (omega (arith, m, B .rules .few))
+        later (3200 + k) (omega (arith, m, B .rules .few))
         ∙ D .right (omega (arith, C .within .long, l)) k (omega (arith, m, B .rules .few, B .rules .counted, C .within .below 0 (omega arith))) d
         (subst (λ (z : ℕ). Stands rules z (clauseSexp d)) (sym (C .within .below (1 + k) (omega (arith, m, B .rules .few)))) (B .rules .starts k d e))
         (B .scoped k d e) (B .shallow k d e)
@@ -107,11 +101,23 @@ keys-filled before mid kept after rules terms C D F = record {
     candidate : words ≤ length before → (goal : List ℕ) (ds : List (Clause Plain)) (cs : List Term) → Booked (filesOf rules goal terms) before ds cs → (i : ℕ) (t : Term) → getElem? cs i ≡ some t → getD after (keptWord i) 0 ≡ termKey t
     candidate l goal ds cs B i t e =
         let m = member-below cs i t e in
-        F .within .below (3456 + i) (omega (arith, m, B .candidates .few))
+        later (3456 + i) (omega (arith, m, B .candidates .few))
         ∙ D .within .above (3456 + i) (omega arith)
         ∙ C .right (omega (arith, l)) i (omega (arith, m, B .candidates .few, B .candidates .counted)) t (B .candidates .starts i t e) (B .candidates .closed i t e) (B .candidates .shallow i t e)
 
-    chains : words ≤ length before → (goal : List ℕ) (ds : List (Clause Plain)) (cs : List Term) → Booked (filesOf rules goal terms) before ds cs → Chained after 0 (length ds)
-    chains l goal ds cs B =
-        let n = D .within .below 0 (omega arith) ∙ C .within .below 0 (omega arith) in
-        subst (Chained after 0) {x = listedRules kept} {y = length ds} (omega (arith, n, B .rules .few, B .rules .counted)) (F .right (omega (arith, D .within .long, C .within .long, l)))
+    -- the chains of rules are filled first, and stay
+    rule-chains : words ≤ length before → (goal : List ℕ) (ds : List (Clause Plain)) (cs : List Term) → Booked (filesOf rules goal terms) before ds cs → Chained (keyWord 0) ruleChains after 0 (length ds)
+    rule-chains l goal ds cs B =
+        let z = D .within .below 0 (omega arith) ∙ C .within .below 0 (omega arith) in
+        chained-kept (λ i h. G .within .below (3200 + i) (omega (arith, h, B .rules .few))) (λ i h. G .within .below (4224 + i) (omega (arith, h, B .rules .few))) (λ b h. G .within .below (4480 + b) (omega (arith, h)))
+        (subst (Chained (keyWord 0) ruleChains rows 0) {x = min n 256} {y = length ds} (omega (arith, z, e, B .rules .few, B .rules .counted)) (F .right (omega arith) (omega (arith, D .within .long, C .within .long, l))))
+
+    candidate-chains : words ≤ length before → (goal : List ℕ) (ds : List (Clause Plain)) (cs : List Term) → Booked (filesOf rules goal terms) before ds cs → Chained (keptWord 0) candidateChains after 0 (length cs)
+    candidate-chains l goal ds cs B =
+        let z = F .within .below 257 (omega arith) ∙ D .within .below 257 (omega arith) ∙ C .within .below 257 (omega arith) in
+        subst (Chained (keptWord 0) candidateChains after 0) {x = min m 256} {y = length cs} (omega (arith, z, e′, B .candidates .few, B .candidates .counted)) (G .right (omega arith) (omega (arith, F .within .long, D .within .long, C .within .long, l)))
+
+-- the numbers of candidates and their chains are right while their words stay
+pub candidates-kept : {room after : List ℕ} {cs : List Term} → ((i : ℕ) → i < length cs → getD after (keptWord i) 0 ≡ getD room (keptWord i) 0) → ((i : ℕ) → i < length cs → linkAt candidateChains after i ≡ linkAt candidateChains room i)
+    → ((b : ℕ) → b < 128 → firstAt candidateChains after b ≡ firstAt candidateChains room b) → CandidateKeys room cs → CandidateKeys after cs
+candidates-kept {cs = cs} numbers links firsts K = record { numbers = λ i t e. numbers i (member-below cs i t e) ∙ K .numbers i t e; chains = chained-kept numbers links firsts (K .chains) }

@@ -2,6 +2,6 @@ pub mod KeyLaws
 pub mod WalkLaws
 pub mod AtomLaws
 pub mod RuleLaws
-pub mod FillLaws
 pub mod ChainLaws
+pub mod FillLaws
 pub mod NextLaws

@@ -9,77 +9,78 @@ use lib.ListN.{getD}
 use borrow.Author.Tests.{eqb-true, eqb-false}
 use Rattle.room.specs.Layout.{rulesWord}
 use Rattle.keys.specs.Chains.{chainOf, numberAt, chainAt, linkAt, firstAt, Chained, BeginsChain, HasNumber, NextWith}
-use Rattle.keys.specs.Keys.{NextClause}
+use Rattle.keys.specs.Keys.{keyWord, ruleChains, NextClause}
 use Rattle.keys.proofs.ChainLaws.{chain-small}
 
--- where a chain is begun
-module _ (room : List ℕ) (x from : ℕ) where
-  pub begin-first : {b r : ℕ} → b ≡ chainOf x → r ≡ getD room (4480 + b) 0 → BeginsChain room x from r
-  begin-first {b} {r} e f n H l =
-      let g : r ≡ firstAt room (chainOf x) = f ∙ ap (λ (c : ℕ). firstAt room c) e in
-      record {
-        reached = λ j a c d. let h = ap (λ (c : ℕ). firstAt room c) d in omega (arith, g, h, H .first j (omega arith) c);
-        alike = λ c. ap (λ (j : ℕ). chainAt room j) g ∙ H .starts (chainOf x) (chain-small x) (omega (arith, g, c));
-      }
-
-  pub begin-after : {b c y r : ℕ} (k : ℕ) → b ≡ chainOf x → (from ≡ 0 → ⊥) → k ≡ from - 1 → y ≡ getD room (3200 + k) 0 → c ≡ chainOf y → c ≡ b → r ≡ getD room (4224 + k) 0 → BeginsChain room x from r
-  begin-after {b} {c} {y} {r} k e z q Y C f g n H l =
-      let same : chainAt room k ≡ chainOf x = ap chainOf (sym Y) ∙ sym C ∙ f ∙ e in
-      record {
-        reached = λ j a b d. omega (arith, g, H .linked k j (omega arith) (omega (arith, z, q, a)) b (d ∙ sym same));
-        alike = λ a. ap (λ (j : ℕ). chainAt room j) g ∙ H .alike k (omega arith) (omega (arith, z, q, l)) (omega (arith, g, a)) ∙ same;
-      }
-
-  -- a rule with the number
-  pub number-before : (r : ℕ) → r < from → HasNumber room x from r false
+-- one with the number
+module _ (ns : ℕ) (room : List ℕ) (x from : ℕ) where
+  pub number-before : (r : ℕ) → r < from → HasNumber ns room x from r false
   number-before r l = record { since = λ e. absurd (false≢true e); other = λ e a. absurd (omega arith) }
 
-  pub number-tested : {y : ℕ} (r : ℕ) → from ≤ r → y ≡ numberAt room r → HasNumber room x from r (eqb y x)
+  pub number-tested : {y : ℕ} (r : ℕ) → from ≤ r → y ≡ numberAt ns room r → HasNumber ns room x from r (eqb y x)
   number-tested {y} r l e = record { since = λ _. l; other = λ f a g. eqb-false y x f (e ∙ g) }
 
-  -- along a chain: no rule with the number is left out
+-- where a chain is begun
+module _ (ns ls : ℕ) (room : List ℕ) (x from : ℕ) where
+  pub begin-first : {b r : ℕ} → b ≡ chainOf x → r ≡ getD room (ls + 256 + b) 0 → BeginsChain ns ls room x from r
+  begin-first {b} {r} e f n H l =
+      let g : r ≡ firstAt ls room (chainOf x) = f ∙ ap (λ (c : ℕ). firstAt ls room c) e in
+      record {
+        reached = λ j a c d. let h = ap (λ (c : ℕ). firstAt ls room c) d in omega (arith, g, h, H .first j (omega arith) c);
+        alike = λ c. ap (λ (j : ℕ). chainAt ns room j) g ∙ H .starts (chainOf x) (chain-small x) (omega (arith, g, c));
+      }
+
+  pub begin-after : {b c y r : ℕ} (k : ℕ) → b ≡ chainOf x → (from ≡ 0 → ⊥) → k ≡ from - 1 → y ≡ getD room (ns + k) 0 → c ≡ chainOf y → c ≡ b → r ≡ getD room (ls + k) 0 → BeginsChain ns ls room x from r
+  begin-after {b} {c} {y} {r} k e z q Y C f g n H l =
+      let same : chainAt ns room k ≡ chainOf x = ap chainOf (sym Y) ∙ sym C ∙ f ∙ e in
+      record {
+        reached = λ j a b d. omega (arith, g, H .linked k j (omega arith) (omega (arith, z, q, a)) b (d ∙ sym same));
+        alike = λ a. ap (λ (j : ℕ). chainAt ns room j) g ∙ H .alike k (omega arith) (omega (arith, z, q, l)) (omega (arith, g, a)) ∙ same;
+      }
+
+  -- along a chain: none with the number is left out
   pub record Walk (m r : ℕ) : Type 0 where
-    pub reached : (j : ℕ) → from ≤ j → j < m → numberAt room j ≡ x → r ≤ j
-    pub alike : r < m → chainAt room r ≡ chainOf x
+    pub reached : (j : ℕ) → from ≤ j → j < m → numberAt ns room j ≡ x → r ≤ j
+    pub alike : r < m → chainAt ns room r ≡ chainOf x
 
   abbrev pub Walked : ℕ → ℕ → Type 0
-  Walked n r = (m : ℕ) → Chained room 0 m → n ≤ m → from ≤ m → Walk m r
+  Walked n r = (m : ℕ) → Chained ns ls room 0 m → n ≤ m → from ≤ m → Walk m r
 
-  pub walk-start : (n r : ℕ) → BeginsChain room x from r → Walked n r
+  pub walk-start : (n r : ℕ) → BeginsChain ns ls room x from r → Walked n r
   walk-start n r B m H l o = let b = B m H o in record { reached = λ j a c d. b .reached j a c (ap chainOf d); alike = b .alike }
 
-  pub walk-found : {b : Bool} (n r : ℕ) → Walked n r → r < n → HasNumber room x from r b → b ≡ true → NextWith room x from n r
+  pub walk-found : {b : Bool} (n r : ℕ) → Walked n r → r < n → HasNumber ns room x from r b → b ≡ true → NextWith ns ls room x from n r
   walk-found n r W l N e = record {
     few = omega arith;
     further = λ _. N .since e;
     other = λ m H a j c d f. let g = W m H a (omega (arith, N .since e, l, a)) .reached j c (omega (arith, d, l, a)) f in absurd (omega (arith, g, d));
   }
 
-  pub walk-end : (n r : ℕ) → Walked n r → n ≤ r → NextWith room x from n n
+  pub walk-end : (n r : ℕ) → Walked n r → n ≤ r → NextWith ns ls room x from n n
   walk-end n r W l = record {
     few = omega arith;
     further = λ a. a;
     other = λ m H a j c d f. let g = W m H a (omega (arith, c, d, a)) .reached j c (omega (arith, d, a)) f in absurd (omega (arith, g, d, l));
   }
 
-  pub walk-back : (n r : ℕ) {s : ℕ} → Walked n r → r < n → s ≡ getD room (4224 + r) 0 → s ≤ r → NextWith room x from n n
+  pub walk-back : (n r : ℕ) {s : ℕ} → Walked n r → r < n → s ≡ getD room (ls + r) 0 → s ≤ r → NextWith ns ls room x from n n
   walk-back n r W l e u = record {
     few = omega arith;
     further = λ a. a;
     other = λ m H a j c d f. absurd (omega (arith, e, u, H .ahead r (omega arith) (omega (arith, l, a))));
   }
 
-  pub walk-next : {b : Bool} (n r : ℕ) {s : ℕ} → Walked n r → r < n → HasNumber room x from r b → b ≡ false → s ≡ getD room (4224 + r) 0 → Walked n s
+  pub walk-next : {b : Bool} (n r : ℕ) {s : ℕ} → Walked n r → r < n → HasNumber ns room x from r b → b ≡ false → s ≡ getD room (ls + r) 0 → Walked n s
   walk-next n r {s} W l N e q m H a o = subst (Walk m) (sym q) (record {
     reached = λ j c d f. go j c d f (eqb r j) refl;
     alike = λ c. H .alike r (omega arith) (omega (arith, l, a)) c ∙ same;
   })
     where
-      same : chainAt room r ≡ chainOf x
+      same : chainAt ns room r ≡ chainOf x
       same = W m H a o .alike (omega (arith, l, a))
 
-      go : (j : ℕ) → from ≤ j → j < m → numberAt room j ≡ x → (z : Bool) → eqb r j ≡ z → linkAt room r ≤ j
-      go j c d f true z = let i = eqb-true r j z in absurd (N .other e (omega (arith, i, c)) (ap (λ (k : ℕ). numberAt room k) i ∙ f))
+      go : (j : ℕ) → from ≤ j → j < m → numberAt ns room j ≡ x → (z : Bool) → eqb r j ≡ z → linkAt ls room r ≤ j
+      go j c d f true z = let i = eqb-true r j z in absurd (N .other e (omega (arith, i, c)) (ap (λ (k : ℕ). numberAt ns room k) i ∙ f))
       go j c d f false z =
           let i = eqb-false r j z in
           let g = W m H a o .reached j c d f in
@@ -101,7 +102,7 @@ module _ (room : List ℕ) (predicate key from n : ℕ) where
     right = λ _. record { rules = λ j a b. absurd (omega arith); barred = λ j a b. absurd (omega arith) };
   }
 
-  pub next-rule : {rules most a b : ℕ} (r : ℕ) → from < n → rules ≡ getD room rulesWord 0 → from < rules → most ≡ min rules n → NextWith room key from most a → NextWith room predicate from a b → NextWith room 0 from b r
+  pub next-rule : {rules most a b : ℕ} (r : ℕ) → from < n → rules ≡ getD room rulesWord 0 → from < rules → most ≡ min rules n → NextWith (keyWord 0) ruleChains room key from most a → NextWith (keyWord 0) ruleChains room predicate from a b → NextWith (keyWord 0) ruleChains room 0 from b r
       → NextClause room predicate key from n r
   next-rule {rules} {most} {a} {b} r l e h m A B C =
       let further = C .further (B .further (A .further (omega (arith, l, h, m)))) in

@@ -99,7 +99,7 @@ binding-says room terms cs C K (Candidate i) = go (ltb i (length cs)) refl
     go true e =
         let l = ltb-true i (length cs) e in
         let (t, m) = below-member cs i l in
-        listed room i (omega (arith, C .counted, l)) ∙ K i t m ∙ ap termKey (candidate-meant cs i t m)
+        listed room i (omega (arith, C .counted, l)) ∙ K .numbers i t m ∙ ap termKey (candidate-meant cs i t m)
     go false e =
         let l = ltb-false i (length cs) e in
         unlisted room i (omega (arith, C .counted, l)) ∙ ap termKey (candidate-unlisted cs i (beyond-none cs i l))

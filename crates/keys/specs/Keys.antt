@@ -1,4 +1,4 @@
--- The numbers at spots of the files, and the tables of them in the room (document 02, Three): those of rules in 256 words, those of candidates in the 256 words after them, and the chains of rules.
+-- The numbers at spots of the files, and the tables of them in the room (document 02, Three): those of rules in 256 words, those of candidates in the 256 words after them, and the chains of both.
 use Prim.Native.Nat.{ℕ, _+_, _≤_, _<_, min}
 use mathlib.Core.Path.{_≡_}
 use mathlib.Core.Bool.{Bool, true, false}
@@ -20,7 +20,7 @@ use Rattle.room.specs.declared.Spot.{Spot}
 use Rattle.heads.specs.Predicate.{AtomThere, ClauseThere}
 use Rattle.keys.specs.Key.{termKey, atomKey, predicateKey, clauseKey}
 use Rattle.keys.specs.Walk.{keptWord}
-use Rattle.keys.specs.Chains.{chainsEnd, Chained, Within}
+use Rattle.keys.specs.Chains.{Chained, Within, NextWith}
 
 -- where the number of rule k is kept, and the first word after both tables
 abbrev pub keyWord : ℕ → ℕ
@@ -29,9 +29,20 @@ keyWord k = 3200 + k
 abbrev pub keysEnd : ℕ
 keysEnd = 3712
 
+-- where the chains of rules begin, where those of candidates, and the first word after both
+abbrev pub ruleChains : ℕ
+ruleChains = 4224
+
+abbrev pub candidateChains : ℕ
+candidateChains = 4864
+
+abbrev pub chainsEnd : ℕ
+chainsEnd = 5248
+
 -- the tables are right
-abbrev pub CandidateKeys : List ℕ → List Term → Type 0
-CandidateKeys room cs = (i : ℕ) (t : Term) → getElem? cs i ≡ some t → getD room (keptWord i) 0 ≡ termKey t
+pub record CandidateKeys (room : List ℕ) (cs : List Term) : Type 0 where
+  pub numbers : (i : ℕ) (t : Term) → getElem? cs i ≡ some t → getD room (keptWord i) 0 ≡ termKey t
+  pub chains : Chained (keptWord 0) candidateChains room 0 (length cs)
 
 abbrev pub RuleKeys : List ℕ → List (Clause Plain) → Type 0
 RuleKeys room ds = (k : ℕ) (d : Clause Plain) → getElem? ds k ≡ some d → getD room (keyWord k) 0 ≡ clauseKey d
@@ -39,7 +50,7 @@ RuleKeys room ds = (k : ℕ) (d : Clause Plain) → getElem? ds k ≡ some d →
 pub record KeysIn (room : List ℕ) (ds : List (Clause Plain)) (cs : List Term) : Type 0 where
   pub rules : RuleKeys room ds
   pub candidates : CandidateKeys room cs
-  pub chains : Chained room 0 (length ds)
+  pub chains : Chained (keyWord 0) ruleChains room 0 (length ds)
 
 -- the answer is the number of the term, of the atom, of the atom's predicate, or of the clause at a spot
 abbrev pub TermKeyAt : Files → List ℕ → Spot → ℕ → Type 0
@@ -97,4 +108,8 @@ pub record PassedOver (room : List ℕ) (predicate key from r : ℕ) : Type 0 wh
 pub record NextClause (room : List ℕ) (predicate key from n r : ℕ) : Type 0 where
   pub few : r ≤ n
   pub further : from ≤ n → from ≤ r
-  pub right : Chained room 0 (getD room rulesWord 0) → PassedOver room predicate key from r
+  pub right : Chained (keyWord 0) ruleChains room 0 (getD room rulesWord 0) → PassedOver room predicate key from r
+
+-- the first candidate from one on, of n, with a number
+abbrev pub NextCandidate : List ℕ → ℕ → ℕ → ℕ → ℕ → Type 0
+NextCandidate room x from n r = NextWith (keptWord 0) candidateChains room x from n r

@@ -10,6 +10,7 @@ mod term;
 pub use atom::Both;
 pub use atom::both_keys;
 pub use atom::predicate_key;
+pub use next::next_candidate;
 pub use next::next_clause;
 pub use rule::rule_key;
 pub use table::fill_keys;

@@ -53,11 +53,14 @@ fn keep_rules(rules: &[u8], room: &mut [u32])
     }
 }
 
-// The numbers of candidates and of rules, in the room's tables, and the chains of rules.
+// The numbers of candidates and of rules, in the room's tables, and the chains of both.
 pub fn fill_keys(rules: &[u8], terms: &[u8], room: &mut [u32])
     ensures { λ r. ⌜ KeysFilled (now (room .entry)) (now (room .exit)) (now (rules .entry)) (now (terms .entry)) ⌝ }
 {
     keep_candidates(terms, room);
     keep_rules(rules, room);
-    fill_chains(room);
+    let n = word(room, 0);
+    fill_chains(room, 3200, 4224, n);
+    let m = word(room, 257);
+    fill_chains(room, 3456, 4864, m);
 }

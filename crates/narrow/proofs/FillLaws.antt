@@ -21,7 +21,7 @@ use Rattle.room.specs.Layout.{words, levels, ruleWord}
 use Rattle.room.specs.Where.{filesOf, Booked}
 use Rattle.room.proofs.FrameLaws.{held-same}
 use Rattle.keys.specs.Keys.{PredicateKeyAt}
-use Rattle.keys.proofs.FillLaws.{within-none, within-more}
+use Rattle.keys.proofs.ChainLaws.{within-none, within-more}
 use Rattle.narrow.specs.Heads.{headOf, inRules, predicateWord, headWord, headsEnd, HeadIn, HeadsIn, HeadIs, HeadAt, PredicateOf, placeOf, HeadsDone, HeadsFilled}
 use Rattle.narrow.specs.declared.rule.Head.{Head}
 use Rattle.narrow.specs.declared.rule.Head.the-variants as H

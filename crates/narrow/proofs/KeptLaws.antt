@@ -25,8 +25,10 @@ use Rattle.room.specs.declared.Source.the-variants as Source
 use Rattle.room.specs.declared.Spot.{Spot}
 use Rattle.room.proofs.WhereLaws.{booked-kept}
 use Rattle.equal.specs.Term.{AtomAt}
-use Rattle.keys.specs.Keys.{KeysIn, keyWord}
-use Rattle.keys.proofs.FillLaws.{within-none, within-more}
+use Rattle.keys.specs.Walk.{keptWord}
+use Rattle.keys.specs.Keys.{KeysIn, keyWord, candidateChains}
+use Rattle.keys.proofs.ChainLaws.{within-none, within-more}
+use Rattle.keys.proofs.FillLaws.{candidates-kept}
 use Rattle.unset.specs.Unset.{Small}
 use Rattle.arguments.specs.Arguments.{ArgumentsAre, ArgumentsAt}
 use Rattle.narrow.specs.Heads.{headOf, inRules, headWord, HeadIn, HeadsIn}
@@ -81,7 +83,8 @@ module _ (before rules terms : List ℕ) {now after : List ℕ} {i key at w : �
       let same = getD-set-same now (4608 + i) w 0 (omega (arith, D .within .long, long, l)) in
       subst (Says us b) (sym same) λ n.
       let closed = no-variables d b h (λ q. A .closed n (ap (λ (z : ℕ). z % 2) (ek ∙ below (keyWord i) (omega (arith, l)) ∙ K .rules i d m) ∙ q)) in
-      A .right us b (rules-small rules goal terms (B .rules-small) (B .terms-small)) (B′ .candidates) (λ j t z. below (3456 + j) (omega (arith, member-below us j t z, B .candidates .few)) ∙ K .candidates j t z)
+      A .right us b (rules-small rules goal terms (B .rules-small) (B .terms-small)) (B′ .candidates)
+      (candidates-kept (λ j z. below (keptWord j) (omega (arith, z, B .candidates .few))) (λ j z. D .within .above (candidateChains + j) (omega arith)) (λ c z. D .within .above (candidateChains + 256 + c) (omega arith)) (K .candidates))
       (record {
         stands = subst (λ (z : ℕ). Stands rules z (atomSexp b)) (sym (ea ∙ below (headWord i) (omega (arith, l)))) st;
         shallow = omega (arith, head-nests d b h, B .shallow i d m);

@@ -51,7 +51,7 @@ set-out rs ts room tables keys heads arguments after e t k d g o n h gs b s low 
     let headed : Booked (filesOf rs gs ts) heads (b .rules) (b .candidates) = booked-kept placed booked in
     let last = kept-then {s′ = 0} {t′ = stack} heads arguments after (omega arith) (omega arith) argued (kept-below (omega arith) (omega arith) o) in
     let kept = kept-then {s′ = 0} {t′ = stack} tables keys after (omega arith) (omega arith) numbered (kept-then {s′ = 0} {t′ = stack} keys heads after (omega arith) (omega arith) placed last) in
-    let keyed : KeysIn heads (b .rules) (b .candidates) = keys-kept few many (λ i l. d .within .below i (omega arith)) (λ i l m. d .within .above i (omega arith)) (k .right (omega arith) gs (b .rules) (b .candidates) (place .booked)) in
+    let keyed : KeysIn heads (b .rules) (b .candidates) = keys-kept few many (λ i l. d .within .below i (omega arith)) (λ i l m. d .within .above i (omega arith)) (λ i l m. d .within .above i (omega arith)) (k .right (omega arith) gs (b .rules) (b .candidates) (place .booked)) in
     let heading : HeadsIn heads rs (b .rules) = d .right (omega (arith, k .within .long)) gs ts (b .rules) (b .candidates) booked in
     record {
       low = low;
@@ -59,7 +59,7 @@ set-out rs ts room tables keys heads arguments after e t k d g o n h gs b s low 
       place = means-kept kept place;
       stock =
           record {
-            keys = keys-below few many o (keys-kept few many (λ i l. g .within .below i (omega arith)) (λ i l m. g .within .below i (omega arith)) keyed);
+            keys = keys-below few many o (keys-kept few many (λ i l. g .within .below i (omega arith)) (λ i l m. g .within .below i (omega arith)) (λ i l m. g .within .above i (omega arith)) keyed);
             heads = heads-below rs (b .rules) few o (heads-kept rs arguments heads (b .rules) (λ j m. (g .within .below (3712 + j) (omega (arith, m, few)), g .within .below (3968 + j) (omega (arith, m, few)))) heading);
             arguments = arguments-below (b .rules) (b .candidates) few o (g .right (omega (arith, d .within .long, k .within .long)) gs (b .rules) (b .candidates) headed keyed heading);
             good = good-empty (filesOf rs gs ts) (b .candidates) (truth (b .candidates) (length (b .rules)) (atStart (b .rules))) 0 after n;

@@ -15,9 +15,11 @@ use Rattle.room.specs.declared.Spot.{Spot}
 use Rattle.room.proofs.FileLaws.{supposing-some}
 use Rattle.room.proofs.WhereLaws.{kept-then, kept-less, push-keeps}
 use Rattle.room.proofs.MoveLaws.{sets-after}
-use Rattle.keys.specs.Chains.{linkWord, firstWord, chainsEnd}
-use Rattle.keys.specs.Keys.{keyWord, keysEnd, KeysIn}
+use Rattle.keys.specs.Chains.{chainWords}
+use Rattle.keys.specs.Walk.{keptWord}
+use Rattle.keys.specs.Keys.{keyWord, keysEnd, ruleChains, candidateChains, KeysIn}
 use Rattle.keys.proofs.ChainLaws.{chained-kept}
+use Rattle.keys.proofs.FillLaws.{candidates-kept}
 use Rattle.narrow.specs.Heads.{predicateWord, headWord, HeadsIn}
 use Rattle.narrow.specs.Kept.{argumentsWord, ArgumentsIn}
 use Rattle.narrow.proofs.KeptLaws.{arguments-kept}
@@ -47,8 +49,8 @@ module _ {f : Files} {ds : List (Clause Plain)} {us : List Term} {m : ℕ} {c : 
         keys =
             record {
               rules = λ j d q. k (keyWord j) (omega arith) ∙ s .keys .rules j d q;
-              candidates = λ j t q. k (3456 + j) (omega arith) ∙ s .keys .candidates j t q;
-              chains = chained-kept (λ j l. k (keyWord j) (omega arith)) (λ j l. k (linkWord j) (omega arith)) (λ b l. k (firstWord b) (omega arith)) (s .keys .chains);
+              candidates = candidates-kept (λ j l. k (keptWord j) (omega arith)) (λ j l. k (candidateChains + j) (omega arith)) (λ b l. k (candidateChains + 256 + b) (omega arith)) (s .keys .candidates);
+              chains = chained-kept (λ j l. k (keyWord j) (omega arith)) (λ j l. k (ruleChains + j) (omega arith)) (λ b l. k (ruleChains + 256 + b) (omega arith)) (s .keys .chains);
             };
         heads = heads-kept (f .rules) after room ds (λ j l. (k (predicateWord j) (omega arith), k (headWord j) (omega arith))) (s .heads);
         arguments = arguments-kept after room ds us (λ j l. k (argumentsWord j) (omega arith)) (s .arguments);
@@ -66,17 +68,17 @@ pub kept-below : {supposed top : ℕ} {room after : List ℕ} → supposed ≤ l
 kept-below l h t i (Live.low k) = t .below i (omega arith)
 kept-below l h t i (Live.high k b) = t .below i (omega arith)
 
-pub keys-kept : {ds : List (Clause Plain)} {us : List Term} {room after : List ℕ} → length ds ≤ rulesAtMost → length us ≤ candidatesAtMost → ((i : ℕ) → i < keysEnd → getD after i 0 ≡ getD room i 0) → ((i : ℕ) → linkWord 0 ≤ i → i < chainsEnd → getD after i 0 ≡ getD room i 0)
-    → KeysIn room ds us → KeysIn after ds us
-keys-kept {ds} {us} l l′ e g k =
+pub keys-kept : {ds : List (Clause Plain)} {us : List Term} {room after : List ℕ} → length ds ≤ rulesAtMost → length us ≤ candidatesAtMost → ((i : ℕ) → i < keysEnd → getD after i 0 ≡ getD room i 0)
+    → ((i : ℕ) → ruleChains ≤ i → i < ruleChains + chainWords → getD after i 0 ≡ getD room i 0) → ((i : ℕ) → candidateChains ≤ i → i < candidateChains + chainWords → getD after i 0 ≡ getD room i 0) → KeysIn room ds us → KeysIn after ds us
+keys-kept {ds} {us} l l′ e g h k =
     record {
       rules = λ j d q. e (keyWord j) (omega (arith, member-below ds j d q)) ∙ k .rules j d q;
-      candidates = λ j u q. e (3456 + j) (omega (arith, member-below us j u q)) ∙ k .candidates j u q;
-      chains = chained-kept (λ j m. e (keyWord j) (omega (arith, m, l))) (λ j m. g (linkWord j) (omega arith) (omega (arith, m, l))) (λ b m. g (firstWord b) (omega arith) (omega (arith, m))) (k .chains);
+      candidates = candidates-kept (λ j m. e (keptWord j) (omega (arith, m, l′))) (λ j m. h (candidateChains + j) (omega arith) (omega (arith, m, l′))) (λ b m. h (candidateChains + 256 + b) (omega arith) (omega (arith, m))) (k .candidates);
+      chains = chained-kept (λ j m. e (keyWord j) (omega (arith, m, l))) (λ j m. g (ruleChains + j) (omega arith) (omega (arith, m, l))) (λ b m. g (ruleChains + 256 + b) (omega arith) (omega (arith, m))) (k .chains);
     }
 
 pub keys-below : {ds : List (Clause Plain)} {us : List Term} {room after : List ℕ} → length ds ≤ rulesAtMost → length us ≤ candidatesAtMost → TableOnly room after → KeysIn room ds us → KeysIn after ds us
-keys-below l l′ t k = keys-kept l l′ (λ i h. t .below i (omega arith)) (λ i h h′. t .below i (omega arith)) k
+keys-below l l′ t k = keys-kept l l′ (λ i h. t .below i (omega arith)) (λ i h h′. t .below i (omega arith)) (λ i h h′. t .below i (omega arith)) k
 
 pub heads-below : (rules : List ℕ) (ds : List (Clause Plain)) {room after : List ℕ} → length ds ≤ rulesAtMost → TableOnly room after → HeadsIn room rules ds → HeadsIn after rules ds
 heads-below rules ds {room} {after} l t h = heads-kept rules after room ds (λ j m. (t .below (predicateWord j) (omega arith), t .below (headWord j) (omega arith))) h

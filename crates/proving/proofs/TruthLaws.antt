@@ -20,7 +20,7 @@ use Rattle.room.specs.Where.{Files}
 use Rattle.room.specs.declared.Where.{Where}
 use Rattle.keys.specs.Key.{atomKey, predicateKey, headKey, clauseKey}
 use Rattle.keys.specs.Chains.{Chained}
-use Rattle.keys.specs.Keys.{keyWord, Differs, Barred, NextClause}
+use Rattle.keys.specs.Keys.{keyWord, ruleChains, Differs, Barred, NextClause}
 use Rattle.keys.proofs.KeyLaws.{replaced-predicate-key, head-fits}
 use Rattle.table.specs.Good.{Rises}
 use Rattle.narrow.specs.Narrow.{NoHead}
@@ -157,5 +157,5 @@ module _ {f : Files} {room : List ℕ} {ds : List (Clause Plain)} {us : List Ter
   -- and of all that are passed over
   pub passed-over : {from n next : ℕ} → NextClause room predicate key from n next → (j : ℕ) → from ≤ j → j < next → clauseDoes (listed us) o c (serves (listed us) left o c bs a) j ≡ false
   passed-over N j l m =
-      let P = N .right (subst (Chained room 0) {x = length ds} {y = getD room rulesWord 0} (omega (arith, r .place .booked .rules .counted)) (r .stock .keys .chains)) in
+      let P = N .right (subst (Chained (keyWord 0) ruleChains room 0) {x = length ds} {y = getD room rulesWord 0} (omega (arith, r .place .booked .rules .counted)) (r .stock .keys .chains)) in
       barred-rule j (P .rules j l m) (P .barred j l m)

@@ -1,4 +1,4 @@
--- The candidates beside the term at a spot: which of them is the term, by its number and then by its bytes, and the lowest that is (document 02, Three).
+-- The candidates beside the term at a spot: which of them is the term, and the lowest that is: those with another number are not looked at (document 02, Three).
 use Prim.Native.Nat.{ℕ, _+_, _≤_, _<_}
 use mathlib.Core.Path.{_≡_, refl, sym, _∙_, ap, subst}
 use mathlib.Core.Bool.{Bool, true, false, false≢true}
@@ -6,7 +6,7 @@ use mathlib.Core.List.{List}
 use mathlib.Core.Option.{some}
 use native.Mathlib.Omega.{arith}
 use lib.Dec.{ltb}
-use lib.ListN.{getD, drop, getElem?}
+use lib.ListN.{length, getD, drop, getElem?}
 use borrow.Author.Tests.{ltb-true, ltb-false}
 use Rattle.basics.specs.Tells.{Tells, told-yes}
 use Rattle.basics.specs.Text.{octets}
@@ -35,7 +35,7 @@ use Rattle.equal.proofs.TermLaws.{part-stands, term-word, term-text, text-once,
 use Rattle.heads.specs.Predicate.{bytesAt}
 use Rattle.mentions.specs.Open.{isOpen}
 use Rattle.keys.specs.Key.{termKey}
-use Rattle.keys.specs.Keys.{CandidateKeys, TermKeyAt}
+use Rattle.keys.specs.Keys.{CandidateKeys, TermKeyAt, NextCandidate}
 use Rattle.keys.proofs.WalkLaws.{candidate-meant, no-f-v, no-e-v}
 use Rattle.unset.specs.declared.Forced.the-variants as F
 use Rattle.unset.specs.Head.{candidateSpot, Numbered, IsCandidate, NoneOf, LowestOf, LowestAt, BoundTo, CandidateAt, OpenAt}
@@ -45,48 +45,51 @@ use Rattle.unset.proofs.HeadLaws.{never}
 abbrev pub termsSpot : ℕ → Spot
 termsSpot at = record { source = Source.Terms; at = at; base = 0; count = 0 }
 
--- another number, another term; else the bytes decide
-module _ (f : Files) (room : List ℕ) (y : Spot) (key i : ℕ) where
-  pub another-number : {k : ℕ} → k ≡ getD room (3456 + i) 0 → (k ≡ key → ⊥) → IsCandidate f room y key i false
-  another-number e d us u C K T q t m =
-      let w = replaced us (bindingsAt room y) u in
-      sym (never (sameTerm t w) (λ z. d (e ∙ K i t m ∙ ap termKey (same-terms-equal t w z) ∙ sym q)))
+-- the bytes decide
+pub bytes-decide : (f : Files) (room : List ℕ) (y : Spot) (i : ℕ) {z : Spot} {r : Bool} → z ≡ candidateSpot room i → SameTerms (f .rules) (f .goal) (f .terms) room z y 128 r → IsCandidate f room y i r
+bytes-decide f room y i {r = r} e M us t u C T m =
+    let here : TermAt (f .rules) (f .goal) (f .terms) (candidateSpot room i) t = record { stands = C .starts i t m; shallow = C .shallow i t m; few = omega arith; holds = true; ok = C .closed i t m } in
+    let n = replaced-nests us (C .shallow) (bindingsAt room (candidateSpot room i)) t in
+    let M′ = subst (λ (v : Spot). SameTerms (f .rules) (f .goal) (f .terms) room v y 128 r) e M in
+    M′ us t u C here T (omega (arith, n, C .shallow i t m))
+    ∙ ap (λ (v : Term). sameTerm v (replaced us (bindingsAt room y) u)) (closed-stays us (bindingsAt room (candidateSpot room i)) true t (C .closed i t m))
 
-  pub bytes-decide : {z : Spot} {r : Bool} → z ≡ candidateSpot room i → SameTerms (f .rules) (f .goal) (f .terms) room z y 128 r → IsCandidate f room y key i r
-  bytes-decide {r = r} e M us u C K T q t m =
-      let here : TermAt (f .rules) (f .goal) (f .terms) (candidateSpot room i) t = record { stands = C .starts i t m; shallow = C .shallow i t m; few = omega arith; holds = true; ok = C .closed i t m } in
-      let n = replaced-nests us (C .shallow) (bindingsAt room (candidateSpot room i)) t in
-      let M′ = subst (λ (v : Spot). SameTerms (f .rules) (f .goal) (f .terms) room v y 128 r) e M in
-      M′ us t u C here T (omega (arith, n, C .shallow i t m))
-      ∙ ap (λ (v : Term). sameTerm v (replaced us (bindingsAt room y) u)) (closed-stays us (bindingsAt room (candidateSpot room i)) true t (C .closed i t m))
+-- the candidates with the number, one after the other: none of the first i, of n, is the term at the spot
+abbrev pub NoneBelow : Files → List ℕ → Spot → ℕ → ℕ → ℕ → Type 0
+NoneBelow f room y key n i = Numbered f room y key (λ us w. n ≤ length us → NoneOf us i w)
 
--- the candidates, one after the other: none of the first i is the term at the spot
-abbrev pub NoneBelow : Files → List ℕ → Spot → ℕ → ℕ → Type 0
-NoneBelow f room y key i = Numbered f room y key (λ us w. NoneOf us i w)
+module _ (f : Files) (room : List ℕ) (y : Spot) (key n : ℕ) where
+  -- those with another number are other terms
+  none-on : {from r : ℕ} → NoneBelow f room y key n from → NextCandidate room key from n r → NoneBelow f room y key n r
+  none-on {from} N X us u C K T q few j l e = go (ltb j from) refl
+    where
+      go : (b : Bool) → ltb j from ≡ b → ⊥
+      go true h = N us u C K T q few j (ltb-true j from h) e
+      go false h = X .other (length us) (K .chains) few j (ltb-false j from h) l (K .numbers j (replaced us (bindingsAt room y) u) e ∙ sym q)
 
-module _ (f : Files) (room : List ℕ) (y : Spot) (key : ℕ) where
-  pub none-first : NoneBelow f room y key 0
-  none-first us u C K T q j l e = absurd (omega arith)
+  pub none-first : {r : ℕ} → NextCandidate room key 0 n r → NoneBelow f room y key n r
+  none-first X = none-on {from = 0} (λ us u C K T q few j l e. absurd (omega arith)) X
 
-  pub lowest-none : {n i : ℕ} → n ≤ i → NoneBelow f room y key i → LowestAt f room y key n n
-  lowest-none l N us u C K T q few = record { few = omega arith; is = λ h. absurd (omega arith); lowest = λ j h. N us u C K T q j (omega arith) }
+  pub lowest-none : {i : ℕ} → n ≤ i → NoneBelow f room y key n i → LowestAt f room y key n n
+  lowest-none l N us u C K T q few = record { few = omega arith; is = λ h. absurd (omega arith); lowest = λ j h. N us u C K T q few j (omega arith) }
 
-  module _ (i : ℕ) {r : Bool} (M : IsCandidate f room y key i r) where
-    pub lowest-found : {n : ℕ} → i < n → r ≡ true → NoneBelow f room y key i → LowestAt f room y key n i
+  module _ (i : ℕ) {r : Bool} (M : IsCandidate f room y i r) where
+    pub lowest-found : i < n → r ≡ true → NoneBelow f room y key n i → LowestAt f room y key n i
     lowest-found l o N us u C K T q few =
         let w = replaced us (bindingsAt room y) u in
         let (t, e) = below-member us i (omega arith) in
-        record { few = omega arith; is = λ h. e ∙ ap some (same-terms-equal t w (sym (M us u C K T q t e) ∙ o)); lowest = N us u C K T q }
+        record { few = omega arith; is = λ h. e ∙ ap some (same-terms-equal t w (sym (M us t u C T e) ∙ o)); lowest = N us u C K T q few }
 
-    pub none-next : r ≡ false → NoneBelow f room y key i → NoneBelow f room y key (i + 1)
-    none-next o N us u C K T q j l e = go (ltb j i) refl
+    pub none-next : {k : ℕ} → r ≡ false → NoneBelow f room y key n i → NextCandidate room key (i + 1) n k → NoneBelow f room y key n k
+    none-next o N X = none-on {from = i + 1} (λ us u C K T q few j l e. go us u C K T q few j l e (ltb j i) refl) X
       where
-        go : (b : Bool) → ltb j i ≡ b → ⊥
-        go true h = N us u C K T q j (ltb-true j i h) e
-        go false h =
+        go : (us : List Term) (u : Term) → CandidatesIn room (f .terms) us → CandidateKeys room us → TermAt (f .rules) (f .goal) (f .terms) y u → key ≡ termKey (replaced us (bindingsAt room y) u) → n ≤ length us
+            → (j : ℕ) → j < i + 1 → getElem? us j ≡ some (replaced us (bindingsAt room y) u) → (b : Bool) → ltb j i ≡ b → ⊥
+        go us u C K T q few j l e true h = N us u C K T q few j (ltb-true j i h) e
+        go us u C K T q few j l e false h =
             let k : j ≡ i = omega (arith, ltb-false j i h, l) in
             let w = replaced us (bindingsAt room y) u in
-            false≢true (sym o ∙ M us u C K T q w (subst (λ (n : ℕ). getElem? us n ≡ some w) k e) ∙ equal-terms-same w w refl)
+            false≢true (sym o ∙ M us w u C T (subst (λ (m : ℕ). getElem? us m ≡ some w) k e) ∙ equal-terms-same w w refl)
 
 -- a variable that is read at a spot stands there
 variable-is : {f : Files} {y : Spot} {s : List ℕ} {r : Bool} {v : Value} {j : ℕ} → s ≡ drop (y .at) (bytesAt f y) → Tells r (Stands s 1 (str (octets "v"))) → r ≡ true → NumberAt s 4 v → v ≡ Val.Is j → (u : Term) → TermAt (f .rules) (f .goal) (f .terms) y u → u ≡ Term.v j
@@ -124,7 +127,7 @@ module _ (f : Files) (room : List ℕ) (y : Spot) where
   bound-serves {c = c} r e B l q L us u C K T =
       let w = replaced us (bindingsAt room y) u in
       let m = B us u C T (omega (arith, C .counted)) in
-      let low = L us u C K T (q ∙ K c w m) (omega (arith, C .counted)) in
+      let low = L us u C K T (q ∙ K .numbers c w m) (omega (arith, C .counted)) in
       (go (ltb r c) refl w m low, low .lowest)
     where
       go : (b : Bool) → ltb r c ≡ b → (w : Term) → getElem? us c ≡ some w → LowestOf us c w r → getElem? us r ≡ some w

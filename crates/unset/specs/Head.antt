@@ -51,15 +51,16 @@ DiffersAt f room x y own r =
 abbrev pub candidateSpot : List ℕ → ℕ → Spot
 candidateSpot room i = record { source = Source.Terms; at = getD room (candidateWord i) 0; base = 0; count = 0 }
 
+-- the answer is whether candidate i is the term at a spot, its variables replaced
+abbrev pub IsCandidate : Files → List ℕ → Spot → ℕ → Bool → Type 0
+IsCandidate f room y i r =
+    (us : List Term) (t u : Term) → CandidatesIn room (f .terms) us → TermAt (f .rules) (f .goal) (f .terms) y u → getElem? us i ≡ some t → r ≡ sameTerm t (replaced us (bindingsAt room y) u)
+
 -- what is said of the term w at a spot, its variables replaced, that has a number, where the tables of candidates and of their numbers are right
 abbrev pub Numbered : Files → List ℕ → Spot → ℕ → (List Term → Term → Type 0) → Type 0
 Numbered f room y key says =
     (us : List Term) (u : Term) → CandidatesIn room (f .terms) us → CandidateKeys room us → TermAt (f .rules) (f .goal) (f .terms) y u
     → key ≡ termKey (replaced us (bindingsAt room y) u) → says us (replaced us (bindingsAt room y) u)
-
--- the answer is whether candidate i is that term
-abbrev pub IsCandidate : Files → List ℕ → Spot → ℕ → ℕ → Bool → Type 0
-IsCandidate f room y key i r = Numbered f room y key (λ us w. (t : Term) → getElem? us i ≡ some t → r ≡ sameTerm t w)
 
 -- none of the first n candidates is a term
 abbrev pub NoneOf : List Term → ℕ → Term → Type 0

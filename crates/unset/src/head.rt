@@ -6,6 +6,7 @@ use equal::same_terms;
 use harrop::Binding;
 use held::holds;
 use held::is_open;
+use keys::next_candidate;
 use keys::term_key;
 use places::further;
 use places::plus;
@@ -131,25 +132,21 @@ fn candidate_spot(room: &[u32], i: u32) -> Spot
     }
 }
 
-// Whether candidate i is the term at a spot that has this number. A candidate with another number is another term, so bytes are compared only where the numbers agree.
+// Whether candidate i is the term at a spot.
 fn is_candidate<'a>(
     rules: &'a [u8],
     goal: &'a [u8],
     terms: &'a [u8],
     room: &[u32],
     y: Spot,
-    key: u32,
     i: u32,
 ) -> bool
-    ensures { λ r. ⌜ IsCandidate (filesOf (now (rules .entry)) (now (goal .entry)) (now (terms .entry))) (now (room .entry)) y key i r ⌝ }
+    ensures { λ r. ⌜ IsCandidate (filesOf (now (rules .entry)) (now (goal .entry)) (now (terms .entry))) (now (room .entry)) y i r ⌝ }
 {
-    if word(room, 3456 + i as usize) != key {
-        return false;
-    }
     same_terms(rules, goal, terms, room, candidate_spot(room, i), y, 128)
 }
 
-// The lowest of the first n candidates that is the term at a spot that has this number; n if none of them is.
+// The lowest of the first n candidates that is the term at a spot that has this number; n if none of them is. A candidate with another number is another term, so it is not looked at.
 fn lowest<'a>(
     rules: &'a [u8],
     goal: &'a [u8],
@@ -161,12 +158,12 @@ fn lowest<'a>(
 ) -> u32
     ensures { λ r. ⌜ LowestAt (filesOf (now (rules .entry)) (now (goal .entry)) (now (terms .entry))) (now (room .entry)) y key n r ⌝ }
 {
-    let mut i: u32 = 0;
+    let mut i = next_candidate(room, key, 0, n);
     while i < n {
-        if is_candidate(rules, goal, terms, room, y, key, i) {
+        if is_candidate(rules, goal, terms, room, y, i) {
             return i;
         }
-        i += 1;
+        i = next_candidate(room, key, i + 1, n);
     }
     n
 }

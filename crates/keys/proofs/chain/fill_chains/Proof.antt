@@ -9,8 +9,8 @@ clear-chains-requires : tie.Need-clear-chains-requires
 clear-chains-requires c κs = search needs
 
 -- src/chain.rt:46:5
-link-rules-requires : tie.Need-link-rules-requires
-link-rules-requires c κs = search needs
+link-all-requires : tie.Need-link-all-requires
+link-all-requires c κs = search needs
 
 -- src/chain.rt:42:1
 same-length : tie.Need-same-length
@@ -18,8 +18,8 @@ same-length c = search needs
 
 -- src/chain.rt:42:1
 returns : tie.Need-returns
-returns c = let x = c .before .before .before .before .before .before .before .before .before .args in chains-filled (x .room .now) (c .before .before .before .before .before .before .clear-chains .last .0) (c .before .before .link-rules .last .0) (c .before .before .before .before .before .before .clear-chains .ensures) (c .before .before .link-rules .ensures)
+returns c = let x = c .before .before .before .before .before .before .before .before .before .args in chains-filled (x .numbers) (x .links) (x .n) (x .room .now) (c .before .before .before .before .before .before .clear-chains .last .0) (c .before .before .link-all .last .0) (c .before .before .before .before .before .before .clear-chains .ensures) (c .before .before .link-all .ensures)
 
 pub fill-chains-spec : {M : Type 1} → statement M
 fill-chains-spec =
-    tie.close (tie.spec clear-chains-requires link-rules-requires same-length returns)
+    tie.close (tie.spec clear-chains-requires link-all-requires same-length returns)

@@ -6,53 +6,51 @@ use native.Mathlib.Omega.{arith}
 use borrow.Author.Needs.{needs}
 use Rattle.unset.proofs.head.lowest.Statement.{statement}
 use Rattle.unset.proofs.head.lowest.Tie as tie
-use Rattle.unset.proofs.head.lowest.Reads as reads
-use Rattle.unset.proofs.head.lowest.Lts as lts
-use Rattle.unset.proofs.head.is_candidate.Reads as is-candidate-reads
 
 abbrev Inv-loop : tie.InvT-loop
-Inv-loop rules goal terms room y key n i₀ i = NoneBelow (filesOf rules goal terms) room y key i
+Inv-loop rules goal terms room y key n i₀ i = NoneBelow (filesOf rules goal terms) room y key n i
 
 abbrev μ-loop : tie.MeasureT-loop
 μ-loop rules goal terms room y key n i₀ i = n - i
 
--- src/head.rt:144:5
-loop-holds : tie.Need-loop-holds Inv-loop μ-loop
-loop-holds c = let x = c .before .before .before .before .args in
-    let f = filesOf (x .rules .now) (x .goal .now) (x .terms .now) in
-    none-first f (x .room .now) (x .y) (x .key)
+next-candidate-requires : tie.Need-next-candidate-requires Inv-loop μ-loop
+next-candidate-requires c κs = search needs
 
--- src/head.rt:145:12
+loop-holds : tie.Need-loop-holds Inv-loop μ-loop
+loop-holds c = let x = c .before .before .before .before .before .args in
+    let f = filesOf (x .rules .now) (x .goal .now) (x .terms .now) in
+    none-first f (x .room .now) (x .y) (x .key) (x .n) (c .next-candidate .ensures)
+
 is-candidate-requires : tie.Need-is-candidate-requires Inv-loop μ-loop
 is-candidate-requires c κs = search needs
 
--- src/head.rt:146:13
 returns : tie.Need-returns Inv-loop μ-loop
-returns c = let x = c .before .before .before .before .before .before .before .before .args in
+returns c = let x = c .before .before .before .before .before .before .before .before .before .args in
     let f = filesOf (x .rules .now) (x .goal .now) (x .terms .now) in
     let l = c .before .before .before .loop in
-    lowest-found f (x .room .now) (x .y) (x .key) (l .i) (c .before .is-candidate .ensures) (c .before .before .loop-test .taken) (c .if1 .taken) (l .inv)
+    lowest-found f (x .room .now) (x .y) (x .key) (x .n) (l .i) (c .before .is-candidate .ensures) (c .before .before .loop-test .taken) (c .if1 .taken) (l .inv)
 
--- src/head.rt:148:9
-add-i : tie.Need-add-i Inv-loop μ-loop
-add-i c = search needs
+add-next-candidate : tie.Need-add-next-candidate Inv-loop μ-loop
+add-next-candidate c = search needs
 
--- src/head.rt:144:5
+next-candidate-requires-2 : tie.Need-next-candidate-requires-2 Inv-loop μ-loop
+next-candidate-requires-2 c κs = search needs
+
 loop-less : tie.Need-loop-less Inv-loop μ-loop
-loop-less c = omega (arith, c .before .before .loop-test .taken)
+loop-less c = let t = c .before .before .before .loop-test .taken in
+    let h = c .next-candidate2 .ensures .further (omega (arith, t)) in
+    omega (arith, h, t)
 
--- src/head.rt:144:5
 loop-again : tie.Need-loop-again Inv-loop μ-loop
-loop-again c = let x = c .before .before .before .before .before .before .before .before .args in
+loop-again c = let x = c .before .before .before .before .before .before .before .before .before .before .args in
     let f = filesOf (x .rules .now) (x .goal .now) (x .terms .now) in
-    let l = c .before .before .before .loop in
-    none-next f (x .room .now) (x .y) (x .key) (l .i) (c .before .is-candidate .ensures) (c .if1 .left) (l .inv)
+    let l = c .before .before .before .before .loop in
+    none-next f (x .room .now) (x .y) (x .key) (x .n) (l .i) (c .before .before .is-candidate .ensures) (c .before .if1 .left) (l .inv) (c .next-candidate2 .ensures)
 
--- src/head.rt:132:1
 returns-2 : tie.Need-returns-2 Inv-loop μ-loop
-returns-2 c = let x = c .before .before .before .before .before .before .args in
+returns-2 c = let x = c .before .before .before .before .before .before .before .args in
     let f = filesOf (x .rules .now) (x .goal .now) (x .terms .now) in
-    lowest-none f (x .room .now) (x .y) (x .key) (c .loop-test .left) (c .before .loop .inv)
+    lowest-none f (x .room .now) (x .y) (x .key) (x .n) (c .loop-test .left) (c .before .loop .inv)
 
 pub lowest-spec : {M : Type 1} → statement M
 lowest-spec =
@@ -60,10 +58,12 @@ lowest-spec =
     (tie.spec
     Inv-loop
     μ-loop
+    next-candidate-requires
     loop-holds
     is-candidate-requires
     returns
-    add-i
+    add-next-candidate
+    next-candidate-requires-2
     loop-less
     loop-again
     returns-2)
