@@ -9,13 +9,13 @@ use lib.Dec.{ltb, eqb}
 use lib.ListN.{length, getElem?}
 use borrow.Author.Tests.{ltb-true, ltb-false, eqb-true, eqb-false}
 use Rattle.harrop.specs.declared.Binding.the-variants.{Candidate}
-use Rattle.harrop.specs.Formula.{Term, Terms}
-use Rattle.harrop.specs.Bindings.{Bindings, meant, valueOf, replaced, replaceds}
+use Rattle.harrop.specs.Formula.{Term, Terms, Atom}
+use Rattle.harrop.specs.Bindings.{Bindings, meant, valueOf, replaced, replaceds, replacedAtom}
 use Rattle.harrop.proofs.ListLaws.{member-below, below-member}
 use Rattle.keys.proofs.WalkLaws.{candidate-meant}
 use Rattle.unset.specs.Head.{NoneOf, CandidateOf}
 use Rattle.unset.specs.declared.Forced.the-variants as Forced
-use Rattle.arguments.specs.Arguments.{Argument, Arguments, Told, Frames, Beside, Between}
+use Rattle.arguments.specs.Arguments.{Argument, Arguments, argumentsOf, Told, Frames, Beside, Between}
 
 -- the lowest candidate that is a term is one, and not among none
 lowest-one : (us : List Term) (w : Term) (c d : ℕ) → CandidateOf us w (Forced.Candidate c) → CandidateOf us w (Forced.Candidate d) → c ≡ d
@@ -93,13 +93,17 @@ abbrev isNil : Terms → Type 0
 isNil Terms.nil = Unit {0}
 isNil (Terms.cons t ts) = ⊥
 
-abbrev firstOf : Terms → Term
+abbrev pub firstOf : Terms → Term
 firstOf Terms.nil = Term.e 0
 firstOf (Terms.cons t ts) = t
 
-abbrev othersOf : Terms → Terms
+abbrev pub othersOf : Terms → Terms
 othersOf Terms.nil = Terms.nil
 othersOf (Terms.cons t ts) = ts
+
+-- replacing variables is done argument by argument
+pub replaced-arguments : (us : List Term) (es : Bindings) (a : Atom) → argumentsOf (replacedAtom us es a) ≡ replaceds us es (argumentsOf a)
+replaced-arguments us es (Atom.atom n ts) = refl
 
 -- nothing is said of what is left
 pub between-open : (a b : ℕ) → Between a b 0

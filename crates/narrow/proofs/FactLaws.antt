@@ -13,14 +13,11 @@ use Rattle.room.specs.declared.Spot.{Spot}
 use Rattle.keys.proofs.WalkLaws.{candidate-meant}
 use Rattle.unset.proofs.HeadLaws.{lowest-means}
 use Rattle.arguments.specs.Arguments.{ArgumentsAre, argumentsOf, Told, Between}
+use Rattle.arguments.proofs.BesideLaws.{replaced-arguments}
 use Rattle.narrow.specs.Narrow.{Gives, Adds, ByHead, ByFact}
 use Rattle.narrow.specs.Kept.{noVariable}
 use Rattle.narrow.proofs.NoHeadLaws.{never-same}
 use Rattle.narrow.proofs.MarkLaws.{more-none, more-set, forced-out}
-
--- replacing variables is done argument by argument
-replaced-arguments : (us : List Term) (es : Bindings) (a : Atom) → argumentsOf (replacedAtom us es a) ≡ replaceds us es (argumentsOf a)
-replaced-arguments us es (Atom.atom n ts) = refl
 
 module _ (f : Files) (room : List ℕ) (x y : Spot) (own v asked kept : ℕ) (marks : List ℕ) where
   -- the words say nothing, so the bytes are asked

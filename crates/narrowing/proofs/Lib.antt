@@ -1,2 +1,3 @@
 pub mod TriedLaws
 pub mod RuleLaws
+pub mod SetLaws

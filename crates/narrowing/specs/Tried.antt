@@ -58,20 +58,16 @@ NarrowsAs word f room after w own v left marks r =
     Ready f room ds us w (suc left) o c bs g →
     Narrows (Stock f ds us (w .supposed) c) (w .supposed) (w .top) room after r (Lacks us (suc left) o c own v marks bs g)
 
--- of clause k for an atom
-abbrev pub NarrowsBy : Files → List ℕ → List ℕ → Where → ℕ → ℕ → ℕ → ℕ → List ℕ → Bool → Type 0
-NarrowsBy f room after w own v k left marks r =
-    (ds : List (Clause Plain)) (us : List Term) (o : List Plain) (c : Hand Plain) (bs : Bindings) (a : Atom) →
-    Ready f room ds us w (suc left) o c bs (Goal.atom a) →
-    Narrows (Stock f ds us (w .supposed) c) (w .supposed) (w .top) room after r ((h : AtHand Plain) → getElem? c k ≡ some h → ServesNot us left o c own v marks bs a h)
-
--- the same where the number of the atom's predicate is known, and the word of its arguments
-abbrev pub NarrowsKnown : Files → List ℕ → List ℕ → Where → ℕ → ℕ → ℕ → ℕ → ℕ → ℕ → List ℕ → Bool → Type 0
-NarrowsKnown f room after w own v predicate asked k left marks r =
-    PredicateKeyAt f (w .goal) predicate →
+-- of clause k for an atom, where the word of its arguments is known
+abbrev pub NarrowsBy : Files → List ℕ → List ℕ → Where → ℕ → ℕ → ℕ → ℕ → ℕ → List ℕ → Bool → Type 0
+NarrowsBy f room after w own v asked k left marks r =
     (ds : List (Clause Plain)) (us : List Term) (o : List Plain) (c : Hand Plain) (bs : Bindings) (a : Atom) →
     Ready f room ds us w (suc left) o c bs (Goal.atom a) → ArgumentsAre us own bs v a asked →
     Narrows (Stock f ds us (w .supposed) c) (w .supposed) (w .top) room after r ((h : AtHand Plain) → getElem? c k ≡ some h → ServesNot us left o c own v marks bs a h)
+
+-- the same where the number of the atom's predicate is known too
+abbrev pub NarrowsKnown : Files → List ℕ → List ℕ → Where → ℕ → ℕ → ℕ → ℕ → ℕ → ℕ → List ℕ → Bool → Type 0
+NarrowsKnown f room after w own v predicate asked k left marks r = PredicateKeyAt f (w .goal) predicate → NarrowsBy f room after w own v asked k left marks r
 
 -- of the body of a clause: with a candidate left out no path through the clause ends well
 abbrev pub Skips : List Term → ℕ → List Plain → Hand Plain → Bindings → Atom → Clause Plain → ℕ → ℕ → List ℕ → Bindings → Type 0

@@ -1,5 +1,6 @@
 // Which candidates a variable need be tried with, by the atoms of a clause's body (document 02, Three: no verdict and no strip changes). A head without variables lets the candidate pass that it forces on the variable.
 // Where the head of a clause has a variable of its own there, those pass that the clause's body leaves this variable, which are looked for in the same way, with what is left of the height, in at most 32 bodies for one atom.
+use crate::setting::set_beside;
 use arguments::arguments_of;
 use held::holds;
 use keys::predicate_key;
@@ -194,10 +195,10 @@ fn narrow_clause<'a>(
     ) {
         return true;
     }
-    narrow_rule(rules, goal, terms, room, w, v, k, left, marks)
+    narrow_rule(rules, goal, terms, room, w, v, asked, k, left, marks)
 }
 
-// By the body of clause k, whose own variables are not set: where its head has a variable at the place of v, what the body says of that one. No: an `and` is on the way to its heads, or it has no body, or no such variable.
+// By the body of clause k, of whose own variables those are set that stand beside arguments of the atom that are set: where its head has a variable at the place of v, what the body says of that one. No: an `and` is on the way to its heads, or it has no body, or no such variable.
 fn narrow_rule<'a>(
     rules: &'a [u8],
     goal: &'a [u8],
@@ -205,11 +206,12 @@ fn narrow_rule<'a>(
     room: &mut [u32],
     w: Where,
     v: usize,
+    asked: u32,
     k: usize,
     left: usize,
     marks: &mut [u8],
 ) -> bool
-    ensures { λ r. ⌜ More (now (marks .entry)) (now (marks .exit)) × ((own : ℕ) → NarrowsBy (filesOf (now (rules .entry)) (now (goal .entry)) (now (terms .entry))) (now (room .entry)) (now (room .exit)) w own v k left (now (marks .exit)) r) ⌝ }
+    ensures { λ r. ⌜ More (now (marks .entry)) (now (marks .exit)) × ((own : ℕ) → NarrowsBy (filesOf (now (rules .entry)) (now (goal .entry)) (now (terms .entry))) (now (room .entry)) (now (room .exit)) w own v asked k left (now (marks .exit)) r) ⌝ }
 {
     let Chosen::Clause(x) = open_clause(room, k, w.supposed, w.top) else {
         return false;
@@ -228,6 +230,7 @@ fn narrow_rule<'a>(
         return false;
     }
     unset_all(room, p.head, p.own);
+    set_beside(rules, goal, terms, room, p, asked);
     let y = body_place(w, p);
     narrow_goal(rules, goal, terms, room, y, p.own, u, true, left, marks)
 }

@@ -32,6 +32,7 @@ use Rattle.arguments.proofs.arguments_of.Reads as arguments-of-reads
 use Rattle.keys.proofs.predicate_key.Reads as predicate-key-reads
 use Rattle.narrow.proofs.by_clause.Reads as by-clause-reads
 use Rattle.narrow.proofs.spend.Reads as spend-reads
+use Rattle.narrowing.proofs.setting.set_beside.Reads as set-beside-reads
 use Rattle.narrowing.proofs.tried.again.Reads as again-reads
 use Rattle.narrowing.proofs.tried.has_variable.Reads as has-variable-reads
 use Rattle.places.proofs.past_part.Reads as past-part-reads
@@ -63,7 +64,7 @@ abbrev μ-narrow-goal : Measures 3 narrow-goal-kinds.ps ℕ
 μ-narrow-goal κs a = 10 * a .1 .1 .1 .1 .1 .1 .1 .1 .0 + 5
 
 abbrev μ-narrow-rule : Measures 3 narrow-rule-kinds.ps ℕ
-μ-narrow-rule κs a = 10 * a .1 .1 .1 .1 .1 .1 .1 .0 + 6
+μ-narrow-rule κs a = 10 * a .1 .1 .1 .1 .1 .1 .1 .1 .0 + 6
 
 abbrev narrow-and-at : ℕ → In 3 narrow-and-kinds.ps
 narrow-and-at t =
@@ -240,10 +241,10 @@ narrow-clause-same-length-3 : (t : ℕ) → narrow-clause-lts.Need-same-length-3
 narrow-clause-same-length-3 t c = c .before .before .before .before .narrow-rule .kept .1 .1 .1 .0
 
 narrow-clause-same-length-4 : (t : ℕ) → narrow-clause-lts.Need-same-length-4 (by-clause-reads.Asked, by-clause-reads.Learnt, narrow-rule-below t, narrow-rule.Post) (narrow-clause-at t) narrow-clause.Post
-narrow-clause-same-length-4 t c = c .before .before .before .before .narrow-rule .kept .1 .1 .1 .1 .1 .1 .1 .1 .0 ∙ c .before .before .before .before .before .before .before .before .before .before .by-clause .ensures .more .long
+narrow-clause-same-length-4 t c = c .before .before .before .before .narrow-rule .kept .1 .1 .1 .1 .1 .1 .1 .1 .1 .0 ∙ c .before .before .before .before .before .before .before .before .before .before .by-clause .ensures .more .long
 
 narrow-clause-returns-2 : (t : ℕ) → narrow-clause-lts.Need-returns-2 (by-clause-reads.Asked, by-clause-reads.Learnt, narrow-rule-below t, narrow-rule.Post) (narrow-clause-at t) narrow-clause.Post
-narrow-clause-returns-2 t c = (more-then (c .before .before .before .before .before .before .before .before .before .before .by-clause .ensures .more) (c .before .before .before .before .narrow-rule .ensures .0), λ P ds us o c′ bs a rd Q. c .before .before .before .before .narrow-rule .ensures .1 (c .before .before .before .before .before .before .before .before .before .before .before .before .before .before .before .before .before .before .args .own) ds us o c′ bs a rd)
+narrow-clause-returns-2 t c = (more-then (c .before .before .before .before .before .before .before .before .before .before .by-clause .ensures .more) (c .before .before .before .before .narrow-rule .ensures .0), λ P. c .before .before .before .before .narrow-rule .ensures .1 (c .before .before .before .before .before .before .before .before .before .before .before .before .before .before .before .before .before .before .args .own))
 
 narrow-goal-returns : (t : ℕ) → narrow-goal-lts.Need-returns (word-there-reads.Asked, word-there-reads.Learnt, narrow-atom-below t, narrow-atom.Post, narrow-and-below t, narrow-and.Post) (narrow-goal-at t) narrow-goal.Post
 narrow-goal-returns t c = let x = c .before .before .before .before .before .before .args in (λ e. more-none (x .marks .now), tried.goal-nothing (x .height))
@@ -290,81 +291,84 @@ narrow-goal-returns-3 t c = (c .before .before .before .before .narrow-and .ensu
 narrow-goal-returns-4 : (t : ℕ) → narrow-goal-lts.Need-returns-4 (word-there-reads.Asked, word-there-reads.Learnt, narrow-atom-below t, narrow-atom.Post, narrow-and-below t, narrow-and.Post) (narrow-goal-at t) narrow-goal.Post
 narrow-goal-returns-4 t c = let x = c .before .before .before .before .before .before .before .before .args in (λ e. more-none (x .marks .now), tried.goal-nothing (x .height))
 
-narrow-rule-open-clause-requires : (t : ℕ) → narrow-rule-lts.Need-open-clause-requires (open-clause-reads.Asked, open-clause-reads.Learnt, clause-parts-reads.Asked, clause-parts-reads.Learnt, same-as-reads.Asked, same-as-reads.Learnt, spend-reads.Asked, spend-reads.Learnt, unset-all-reads.Asked, unset-all-reads.Learnt, body-place-reads.Asked, body-place-reads.Learnt, narrow-goal-below t, narrow-goal.Post) (narrow-rule-at t) narrow-rule.Post
+narrow-rule-open-clause-requires : (t : ℕ) → narrow-rule-lts.Need-open-clause-requires (open-clause-reads.Asked, open-clause-reads.Learnt, clause-parts-reads.Asked, clause-parts-reads.Learnt, same-as-reads.Asked, same-as-reads.Learnt, spend-reads.Asked, spend-reads.Learnt, unset-all-reads.Asked, unset-all-reads.Learnt, set-beside-reads.Asked, set-beside-reads.Learnt, body-place-reads.Asked, body-place-reads.Learnt, narrow-goal-below t, narrow-goal.Post) (narrow-rule-at t) narrow-rule.Post
 narrow-rule-open-clause-requires t c κs = search needs
 
-narrow-rule-enum-known-x : (t : ℕ) → narrow-rule-lts.Need-enum-known-x (open-clause-reads.Asked, open-clause-reads.Learnt, clause-parts-reads.Asked, clause-parts-reads.Learnt, same-as-reads.Asked, same-as-reads.Learnt, spend-reads.Asked, spend-reads.Learnt, unset-all-reads.Asked, unset-all-reads.Learnt, body-place-reads.Asked, body-place-reads.Learnt, narrow-goal-below t, narrow-goal.Post) (narrow-rule-at t) narrow-rule.Post
+narrow-rule-enum-known-x : (t : ℕ) → narrow-rule-lts.Need-enum-known-x (open-clause-reads.Asked, open-clause-reads.Learnt, clause-parts-reads.Asked, clause-parts-reads.Learnt, same-as-reads.Asked, same-as-reads.Learnt, spend-reads.Asked, spend-reads.Learnt, unset-all-reads.Asked, unset-all-reads.Learnt, set-beside-reads.Asked, set-beside-reads.Learnt, body-place-reads.Asked, body-place-reads.Learnt, narrow-goal-below t, narrow-goal.Post) (narrow-rule-at t) narrow-rule.Post
 narrow-rule-enum-known-x t c = search needs
 
-narrow-rule-enum-told : (t : ℕ) → narrow-rule-lts.Need-enum-told (open-clause-reads.Asked, open-clause-reads.Learnt, clause-parts-reads.Asked, clause-parts-reads.Learnt, same-as-reads.Asked, same-as-reads.Learnt, spend-reads.Asked, spend-reads.Learnt, unset-all-reads.Asked, unset-all-reads.Learnt, body-place-reads.Asked, body-place-reads.Learnt, narrow-goal-below t, narrow-goal.Post) (narrow-rule-at t) narrow-rule.Post
+narrow-rule-enum-told : (t : ℕ) → narrow-rule-lts.Need-enum-told (open-clause-reads.Asked, open-clause-reads.Learnt, clause-parts-reads.Asked, clause-parts-reads.Learnt, same-as-reads.Asked, same-as-reads.Learnt, spend-reads.Asked, spend-reads.Learnt, unset-all-reads.Asked, unset-all-reads.Learnt, set-beside-reads.Asked, set-beside-reads.Learnt, body-place-reads.Asked, body-place-reads.Learnt, narrow-goal-below t, narrow-goal.Post) (narrow-rule-at t) narrow-rule.Post
 narrow-rule-enum-told t c = search needs
 
-narrow-rule-same-length : (t : ℕ) → narrow-rule-lts.Need-same-length (open-clause-reads.Asked, open-clause-reads.Learnt, clause-parts-reads.Asked, clause-parts-reads.Learnt, same-as-reads.Asked, same-as-reads.Learnt, spend-reads.Asked, spend-reads.Learnt, unset-all-reads.Asked, unset-all-reads.Learnt, body-place-reads.Asked, body-place-reads.Learnt, narrow-goal-below t, narrow-goal.Post) (narrow-rule-at t) narrow-rule.Post
+narrow-rule-same-length : (t : ℕ) → narrow-rule-lts.Need-same-length (open-clause-reads.Asked, open-clause-reads.Learnt, clause-parts-reads.Asked, clause-parts-reads.Learnt, same-as-reads.Asked, same-as-reads.Learnt, spend-reads.Asked, spend-reads.Learnt, unset-all-reads.Asked, unset-all-reads.Learnt, set-beside-reads.Asked, set-beside-reads.Learnt, body-place-reads.Asked, body-place-reads.Learnt, narrow-goal-below t, narrow-goal.Post) (narrow-rule-at t) narrow-rule.Post
 narrow-rule-same-length t c = c .before .before .before .before .open-clause .kept .0
 
-narrow-rule-returns : (t : ℕ) → narrow-rule-lts.Need-returns (open-clause-reads.Asked, open-clause-reads.Learnt, clause-parts-reads.Asked, clause-parts-reads.Learnt, same-as-reads.Asked, same-as-reads.Learnt, spend-reads.Asked, spend-reads.Learnt, unset-all-reads.Asked, unset-all-reads.Learnt, body-place-reads.Asked, body-place-reads.Learnt, narrow-goal-below t, narrow-goal.Post) (narrow-rule-at t) narrow-rule.Post
+narrow-rule-returns : (t : ℕ) → narrow-rule-lts.Need-returns (open-clause-reads.Asked, open-clause-reads.Learnt, clause-parts-reads.Asked, clause-parts-reads.Learnt, same-as-reads.Asked, same-as-reads.Learnt, spend-reads.Asked, spend-reads.Learnt, unset-all-reads.Asked, unset-all-reads.Learnt, set-beside-reads.Asked, set-beside-reads.Learnt, body-place-reads.Asked, body-place-reads.Learnt, narrow-goal-below t, narrow-goal.Post) (narrow-rule-at t) narrow-rule.Post
 narrow-rule-returns t c = let x = c .before .before .before .before .before .before .before .before .before .before .before .args in (more-none (x .marks .now), λ own. rules.rule-none (x .k) (c .before .before .before .before .open-clause .ensures) (c .enum-told .given .1))
 
-narrow-rule-clause-parts-requires : (t : ℕ) → narrow-rule-lts.Need-clause-parts-requires (open-clause-reads.Asked, open-clause-reads.Learnt, clause-parts-reads.Asked, clause-parts-reads.Learnt, same-as-reads.Asked, same-as-reads.Learnt, spend-reads.Asked, spend-reads.Learnt, unset-all-reads.Asked, unset-all-reads.Learnt, body-place-reads.Asked, body-place-reads.Learnt, narrow-goal-below t, narrow-goal.Post) (narrow-rule-at t) narrow-rule.Post
+narrow-rule-clause-parts-requires : (t : ℕ) → narrow-rule-lts.Need-clause-parts-requires (open-clause-reads.Asked, open-clause-reads.Learnt, clause-parts-reads.Asked, clause-parts-reads.Learnt, same-as-reads.Asked, same-as-reads.Learnt, spend-reads.Asked, spend-reads.Learnt, unset-all-reads.Asked, unset-all-reads.Learnt, set-beside-reads.Asked, set-beside-reads.Learnt, body-place-reads.Asked, body-place-reads.Learnt, narrow-goal-below t, narrow-goal.Post) (narrow-rule-at t) narrow-rule.Post
 narrow-rule-clause-parts-requires t c κs = search needs
 
-narrow-rule-same-length-2 : (t : ℕ) → narrow-rule-lts.Need-same-length-2 (open-clause-reads.Asked, open-clause-reads.Learnt, clause-parts-reads.Asked, clause-parts-reads.Learnt, same-as-reads.Asked, same-as-reads.Learnt, spend-reads.Asked, spend-reads.Learnt, unset-all-reads.Asked, unset-all-reads.Learnt, body-place-reads.Asked, body-place-reads.Learnt, narrow-goal-below t, narrow-goal.Post) (narrow-rule-at t) narrow-rule.Post
+narrow-rule-same-length-2 : (t : ℕ) → narrow-rule-lts.Need-same-length-2 (open-clause-reads.Asked, open-clause-reads.Learnt, clause-parts-reads.Asked, clause-parts-reads.Learnt, same-as-reads.Asked, same-as-reads.Learnt, spend-reads.Asked, spend-reads.Learnt, unset-all-reads.Asked, unset-all-reads.Learnt, set-beside-reads.Asked, set-beside-reads.Learnt, body-place-reads.Asked, body-place-reads.Learnt, narrow-goal-below t, narrow-goal.Post) (narrow-rule-at t) narrow-rule.Post
 narrow-rule-same-length-2 t c = c .before .before .before .before .before .before .before .before .before .open-clause .kept .0
 
-narrow-rule-returns-2 : (t : ℕ) → narrow-rule-lts.Need-returns-2 (open-clause-reads.Asked, open-clause-reads.Learnt, clause-parts-reads.Asked, clause-parts-reads.Learnt, same-as-reads.Asked, same-as-reads.Learnt, spend-reads.Asked, spend-reads.Learnt, unset-all-reads.Asked, unset-all-reads.Learnt, body-place-reads.Asked, body-place-reads.Learnt, narrow-goal-below t, narrow-goal.Post) (narrow-rule-at t) narrow-rule.Post
+narrow-rule-returns-2 : (t : ℕ) → narrow-rule-lts.Need-returns-2 (open-clause-reads.Asked, open-clause-reads.Learnt, clause-parts-reads.Asked, clause-parts-reads.Learnt, same-as-reads.Asked, same-as-reads.Learnt, spend-reads.Asked, spend-reads.Learnt, unset-all-reads.Asked, unset-all-reads.Learnt, set-beside-reads.Asked, set-beside-reads.Learnt, body-place-reads.Asked, body-place-reads.Learnt, narrow-goal-below t, narrow-goal.Post) (narrow-rule-at t) narrow-rule.Post
 narrow-rule-returns-2 t c = let x = c .before .before .before .before .before .before .before .before .before .before .before .before .before .before .before .before .args in (more-none (x .marks .now), λ own. rules.rule-stops (x .k) (c .before .before .before .before .before .before .before .before .before .open-clause .ensures) (c .before .before .before .before .before .x .given .1))
 
-narrow-rule-same-length-3 : (t : ℕ) → narrow-rule-lts.Need-same-length-3 (open-clause-reads.Asked, open-clause-reads.Learnt, clause-parts-reads.Asked, clause-parts-reads.Learnt, same-as-reads.Asked, same-as-reads.Learnt, spend-reads.Asked, spend-reads.Learnt, unset-all-reads.Asked, unset-all-reads.Learnt, body-place-reads.Asked, body-place-reads.Learnt, narrow-goal-below t, narrow-goal.Post) (narrow-rule-at t) narrow-rule.Post
+narrow-rule-same-length-3 : (t : ℕ) → narrow-rule-lts.Need-same-length-3 (open-clause-reads.Asked, open-clause-reads.Learnt, clause-parts-reads.Asked, clause-parts-reads.Learnt, same-as-reads.Asked, same-as-reads.Learnt, spend-reads.Asked, spend-reads.Learnt, unset-all-reads.Asked, unset-all-reads.Learnt, set-beside-reads.Asked, set-beside-reads.Learnt, body-place-reads.Asked, body-place-reads.Learnt, narrow-goal-below t, narrow-goal.Post) (narrow-rule-at t) narrow-rule.Post
 narrow-rule-same-length-3 t c = c .before .before .before .before .before .before .before .before .before .before .before .open-clause .kept .0
 
-narrow-rule-returns-3 : (t : ℕ) → narrow-rule-lts.Need-returns-3 (open-clause-reads.Asked, open-clause-reads.Learnt, clause-parts-reads.Asked, clause-parts-reads.Learnt, same-as-reads.Asked, same-as-reads.Learnt, spend-reads.Asked, spend-reads.Learnt, unset-all-reads.Asked, unset-all-reads.Learnt, body-place-reads.Asked, body-place-reads.Learnt, narrow-goal-below t, narrow-goal.Post) (narrow-rule-at t) narrow-rule.Post
+narrow-rule-returns-3 : (t : ℕ) → narrow-rule-lts.Need-returns-3 (open-clause-reads.Asked, open-clause-reads.Learnt, clause-parts-reads.Asked, clause-parts-reads.Learnt, same-as-reads.Asked, same-as-reads.Learnt, spend-reads.Asked, spend-reads.Learnt, unset-all-reads.Asked, unset-all-reads.Learnt, set-beside-reads.Asked, set-beside-reads.Learnt, body-place-reads.Asked, body-place-reads.Learnt, narrow-goal-below t, narrow-goal.Post) (narrow-rule-at t) narrow-rule.Post
 narrow-rule-returns-3 t c = let x = c .before .before .before .before .before .before .before .before .before .before .before .before .before .before .before .before .before .before .args in (more-none (x .marks .now), λ own. rules.rule-stops (x .k) (c .before .before .before .before .before .before .before .before .before .before .before .open-clause .ensures) (c .before .before .before .before .before .before .before .x .given .1))
 
-narrow-rule-same-as-requires : (t : ℕ) → narrow-rule-lts.Need-same-as-requires (open-clause-reads.Asked, open-clause-reads.Learnt, clause-parts-reads.Asked, clause-parts-reads.Learnt, same-as-reads.Asked, same-as-reads.Learnt, spend-reads.Asked, spend-reads.Learnt, unset-all-reads.Asked, unset-all-reads.Learnt, body-place-reads.Asked, body-place-reads.Learnt, narrow-goal-below t, narrow-goal.Post) (narrow-rule-at t) narrow-rule.Post
+narrow-rule-same-as-requires : (t : ℕ) → narrow-rule-lts.Need-same-as-requires (open-clause-reads.Asked, open-clause-reads.Learnt, clause-parts-reads.Asked, clause-parts-reads.Learnt, same-as-reads.Asked, same-as-reads.Learnt, spend-reads.Asked, spend-reads.Learnt, unset-all-reads.Asked, unset-all-reads.Learnt, set-beside-reads.Asked, set-beside-reads.Learnt, body-place-reads.Asked, body-place-reads.Learnt, narrow-goal-below t, narrow-goal.Post) (narrow-rule-at t) narrow-rule.Post
 narrow-rule-same-as-requires t c κs = search needs
 
-narrow-rule-enum-known-u : (t : ℕ) → narrow-rule-lts.Need-enum-known-u (open-clause-reads.Asked, open-clause-reads.Learnt, clause-parts-reads.Asked, clause-parts-reads.Learnt, same-as-reads.Asked, same-as-reads.Learnt, spend-reads.Asked, spend-reads.Learnt, unset-all-reads.Asked, unset-all-reads.Learnt, body-place-reads.Asked, body-place-reads.Learnt, narrow-goal-below t, narrow-goal.Post) (narrow-rule-at t) narrow-rule.Post
+narrow-rule-enum-known-u : (t : ℕ) → narrow-rule-lts.Need-enum-known-u (open-clause-reads.Asked, open-clause-reads.Learnt, clause-parts-reads.Asked, clause-parts-reads.Learnt, same-as-reads.Asked, same-as-reads.Learnt, spend-reads.Asked, spend-reads.Learnt, unset-all-reads.Asked, unset-all-reads.Learnt, set-beside-reads.Asked, set-beside-reads.Learnt, body-place-reads.Asked, body-place-reads.Learnt, narrow-goal-below t, narrow-goal.Post) (narrow-rule-at t) narrow-rule.Post
 narrow-rule-enum-known-u t c = search needs
 
-narrow-rule-enum-told-2 : (t : ℕ) → narrow-rule-lts.Need-enum-told-2 (open-clause-reads.Asked, open-clause-reads.Learnt, clause-parts-reads.Asked, clause-parts-reads.Learnt, same-as-reads.Asked, same-as-reads.Learnt, spend-reads.Asked, spend-reads.Learnt, unset-all-reads.Asked, unset-all-reads.Learnt, body-place-reads.Asked, body-place-reads.Learnt, narrow-goal-below t, narrow-goal.Post) (narrow-rule-at t) narrow-rule.Post
+narrow-rule-enum-told-2 : (t : ℕ) → narrow-rule-lts.Need-enum-told-2 (open-clause-reads.Asked, open-clause-reads.Learnt, clause-parts-reads.Asked, clause-parts-reads.Learnt, same-as-reads.Asked, same-as-reads.Learnt, spend-reads.Asked, spend-reads.Learnt, unset-all-reads.Asked, unset-all-reads.Learnt, set-beside-reads.Asked, set-beside-reads.Learnt, body-place-reads.Asked, body-place-reads.Learnt, narrow-goal-below t, narrow-goal.Post) (narrow-rule-at t) narrow-rule.Post
 narrow-rule-enum-told-2 t c = search needs
 
-narrow-rule-same-length-4 : (t : ℕ) → narrow-rule-lts.Need-same-length-4 (open-clause-reads.Asked, open-clause-reads.Learnt, clause-parts-reads.Asked, clause-parts-reads.Learnt, same-as-reads.Asked, same-as-reads.Learnt, spend-reads.Asked, spend-reads.Learnt, unset-all-reads.Asked, unset-all-reads.Learnt, body-place-reads.Asked, body-place-reads.Learnt, narrow-goal-below t, narrow-goal.Post) (narrow-rule-at t) narrow-rule.Post
+narrow-rule-same-length-4 : (t : ℕ) → narrow-rule-lts.Need-same-length-4 (open-clause-reads.Asked, open-clause-reads.Learnt, clause-parts-reads.Asked, clause-parts-reads.Learnt, same-as-reads.Asked, same-as-reads.Learnt, spend-reads.Asked, spend-reads.Learnt, unset-all-reads.Asked, unset-all-reads.Learnt, set-beside-reads.Asked, set-beside-reads.Learnt, body-place-reads.Asked, body-place-reads.Learnt, narrow-goal-below t, narrow-goal.Post) (narrow-rule-at t) narrow-rule.Post
 narrow-rule-same-length-4 t c = c .before .before .before .before .before .before .before .before .before .before .before .before .before .before .open-clause .kept .0
 
-narrow-rule-returns-4 : (t : ℕ) → narrow-rule-lts.Need-returns-4 (open-clause-reads.Asked, open-clause-reads.Learnt, clause-parts-reads.Asked, clause-parts-reads.Learnt, same-as-reads.Asked, same-as-reads.Learnt, spend-reads.Asked, spend-reads.Learnt, unset-all-reads.Asked, unset-all-reads.Learnt, body-place-reads.Asked, body-place-reads.Learnt, narrow-goal-below t, narrow-goal.Post) (narrow-rule-at t) narrow-rule.Post
+narrow-rule-returns-4 : (t : ℕ) → narrow-rule-lts.Need-returns-4 (open-clause-reads.Asked, open-clause-reads.Learnt, clause-parts-reads.Asked, clause-parts-reads.Learnt, same-as-reads.Asked, same-as-reads.Learnt, spend-reads.Asked, spend-reads.Learnt, unset-all-reads.Asked, unset-all-reads.Learnt, set-beside-reads.Asked, set-beside-reads.Learnt, body-place-reads.Asked, body-place-reads.Learnt, narrow-goal-below t, narrow-goal.Post) (narrow-rule-at t) narrow-rule.Post
 narrow-rule-returns-4 t c = let x = c .before .before .before .before .before .before .before .before .before .before .before .before .before .before .before .before .before .before .before .before .before .args in (more-none (x .marks .now), λ own. rules.rule-stops (x .k) (c .before .before .before .before .before .before .before .before .before .before .before .before .before .before .open-clause .ensures) (c .before .before .before .before .before .before .before .before .before .before .x .given .1))
 
-narrow-rule-spend-requires : (t : ℕ) → narrow-rule-lts.Need-spend-requires (open-clause-reads.Asked, open-clause-reads.Learnt, clause-parts-reads.Asked, clause-parts-reads.Learnt, same-as-reads.Asked, same-as-reads.Learnt, spend-reads.Asked, spend-reads.Learnt, unset-all-reads.Asked, unset-all-reads.Learnt, body-place-reads.Asked, body-place-reads.Learnt, narrow-goal-below t, narrow-goal.Post) (narrow-rule-at t) narrow-rule.Post
+narrow-rule-spend-requires : (t : ℕ) → narrow-rule-lts.Need-spend-requires (open-clause-reads.Asked, open-clause-reads.Learnt, clause-parts-reads.Asked, clause-parts-reads.Learnt, same-as-reads.Asked, same-as-reads.Learnt, spend-reads.Asked, spend-reads.Learnt, unset-all-reads.Asked, unset-all-reads.Learnt, set-beside-reads.Asked, set-beside-reads.Learnt, body-place-reads.Asked, body-place-reads.Learnt, narrow-goal-below t, narrow-goal.Post) (narrow-rule-at t) narrow-rule.Post
 narrow-rule-spend-requires t c κs = search needs
 
-narrow-rule-same-length-5 : (t : ℕ) → narrow-rule-lts.Need-same-length-5 (open-clause-reads.Asked, open-clause-reads.Learnt, clause-parts-reads.Asked, clause-parts-reads.Learnt, same-as-reads.Asked, same-as-reads.Learnt, spend-reads.Asked, spend-reads.Learnt, unset-all-reads.Asked, unset-all-reads.Learnt, body-place-reads.Asked, body-place-reads.Learnt, narrow-goal-below t, narrow-goal.Post) (narrow-rule-at t) narrow-rule.Post
+narrow-rule-same-length-5 : (t : ℕ) → narrow-rule-lts.Need-same-length-5 (open-clause-reads.Asked, open-clause-reads.Learnt, clause-parts-reads.Asked, clause-parts-reads.Learnt, same-as-reads.Asked, same-as-reads.Learnt, spend-reads.Asked, spend-reads.Learnt, unset-all-reads.Asked, unset-all-reads.Learnt, set-beside-reads.Asked, set-beside-reads.Learnt, body-place-reads.Asked, body-place-reads.Learnt, narrow-goal-below t, narrow-goal.Post) (narrow-rule-at t) narrow-rule.Post
 narrow-rule-same-length-5 t c = c .before .before .before .before .before .before .before .before .before .before .before .before .before .before .before .before .before .before .before .before .open-clause .kept .0
 
-narrow-rule-same-length-6 : (t : ℕ) → narrow-rule-lts.Need-same-length-6 (open-clause-reads.Asked, open-clause-reads.Learnt, clause-parts-reads.Asked, clause-parts-reads.Learnt, same-as-reads.Asked, same-as-reads.Learnt, spend-reads.Asked, spend-reads.Learnt, unset-all-reads.Asked, unset-all-reads.Learnt, body-place-reads.Asked, body-place-reads.Learnt, narrow-goal-below t, narrow-goal.Post) (narrow-rule-at t) narrow-rule.Post
+narrow-rule-same-length-6 : (t : ℕ) → narrow-rule-lts.Need-same-length-6 (open-clause-reads.Asked, open-clause-reads.Learnt, clause-parts-reads.Asked, clause-parts-reads.Learnt, same-as-reads.Asked, same-as-reads.Learnt, spend-reads.Asked, spend-reads.Learnt, unset-all-reads.Asked, unset-all-reads.Learnt, set-beside-reads.Asked, set-beside-reads.Learnt, body-place-reads.Asked, body-place-reads.Learnt, narrow-goal-below t, narrow-goal.Post) (narrow-rule-at t) narrow-rule.Post
 narrow-rule-same-length-6 t c = c .before .before .before .spend .ensures .long
 
-narrow-rule-returns-5 : (t : ℕ) → narrow-rule-lts.Need-returns-5 (open-clause-reads.Asked, open-clause-reads.Learnt, clause-parts-reads.Asked, clause-parts-reads.Learnt, same-as-reads.Asked, same-as-reads.Learnt, spend-reads.Asked, spend-reads.Learnt, unset-all-reads.Asked, unset-all-reads.Learnt, body-place-reads.Asked, body-place-reads.Learnt, narrow-goal-below t, narrow-goal.Post) (narrow-rule-at t) narrow-rule.Post
+narrow-rule-returns-5 : (t : ℕ) → narrow-rule-lts.Need-returns-5 (open-clause-reads.Asked, open-clause-reads.Learnt, clause-parts-reads.Asked, clause-parts-reads.Learnt, same-as-reads.Asked, same-as-reads.Learnt, spend-reads.Asked, spend-reads.Learnt, unset-all-reads.Asked, unset-all-reads.Learnt, set-beside-reads.Asked, set-beside-reads.Learnt, body-place-reads.Asked, body-place-reads.Learnt, narrow-goal-below t, narrow-goal.Post) (narrow-rule-at t) narrow-rule.Post
 narrow-rule-returns-5 t c = (c .before .before .before .spend .ensures, λ own. rules.rule-stops (c .before .before .before .before .before .before .before .before .before .before .before .before .before .before .before .before .before .before .before .before .before .before .before .before .before .before .before .args .k) (c .before .before .before .before .before .before .before .before .before .before .before .before .before .before .before .before .before .before .before .before .open-clause .ensures) (c .before .before .before .before .before .before .before .before .before .before .before .before .before .before .before .before .x .given .1))
 
-narrow-rule-unset-all-requires : (t : ℕ) → narrow-rule-lts.Need-unset-all-requires (open-clause-reads.Asked, open-clause-reads.Learnt, clause-parts-reads.Asked, clause-parts-reads.Learnt, same-as-reads.Asked, same-as-reads.Learnt, spend-reads.Asked, spend-reads.Learnt, unset-all-reads.Asked, unset-all-reads.Learnt, body-place-reads.Asked, body-place-reads.Learnt, narrow-goal-below t, narrow-goal.Post) (narrow-rule-at t) narrow-rule.Post
+narrow-rule-unset-all-requires : (t : ℕ) → narrow-rule-lts.Need-unset-all-requires (open-clause-reads.Asked, open-clause-reads.Learnt, clause-parts-reads.Asked, clause-parts-reads.Learnt, same-as-reads.Asked, same-as-reads.Learnt, spend-reads.Asked, spend-reads.Learnt, unset-all-reads.Asked, unset-all-reads.Learnt, set-beside-reads.Asked, set-beside-reads.Learnt, body-place-reads.Asked, body-place-reads.Learnt, narrow-goal-below t, narrow-goal.Post) (narrow-rule-at t) narrow-rule.Post
 narrow-rule-unset-all-requires t c κs = search needs
 
-narrow-rule-body-place-requires : (t : ℕ) → narrow-rule-lts.Need-body-place-requires (open-clause-reads.Asked, open-clause-reads.Learnt, clause-parts-reads.Asked, clause-parts-reads.Learnt, same-as-reads.Asked, same-as-reads.Learnt, spend-reads.Asked, spend-reads.Learnt, unset-all-reads.Asked, unset-all-reads.Learnt, body-place-reads.Asked, body-place-reads.Learnt, narrow-goal-below t, narrow-goal.Post) (narrow-rule-at t) narrow-rule.Post
+narrow-rule-set-beside-requires : (t : ℕ) → narrow-rule-lts.Need-set-beside-requires (open-clause-reads.Asked, open-clause-reads.Learnt, clause-parts-reads.Asked, clause-parts-reads.Learnt, same-as-reads.Asked, same-as-reads.Learnt, spend-reads.Asked, spend-reads.Learnt, unset-all-reads.Asked, unset-all-reads.Learnt, set-beside-reads.Asked, set-beside-reads.Learnt, body-place-reads.Asked, body-place-reads.Learnt, narrow-goal-below t, narrow-goal.Post) (narrow-rule-at t) narrow-rule.Post
+narrow-rule-set-beside-requires t c κs = search needs
+
+narrow-rule-body-place-requires : (t : ℕ) → narrow-rule-lts.Need-body-place-requires (open-clause-reads.Asked, open-clause-reads.Learnt, clause-parts-reads.Asked, clause-parts-reads.Learnt, same-as-reads.Asked, same-as-reads.Learnt, spend-reads.Asked, spend-reads.Learnt, unset-all-reads.Asked, unset-all-reads.Learnt, set-beside-reads.Asked, set-beside-reads.Learnt, body-place-reads.Asked, body-place-reads.Learnt, narrow-goal-below t, narrow-goal.Post) (narrow-rule-at t) narrow-rule.Post
 narrow-rule-body-place-requires t c κs = search needs
 
-narrow-rule-narrow-goal-requires : (t : ℕ) → narrow-rule-lts.Need-narrow-goal-requires (open-clause-reads.Asked, open-clause-reads.Learnt, clause-parts-reads.Asked, clause-parts-reads.Learnt, same-as-reads.Asked, same-as-reads.Learnt, spend-reads.Asked, spend-reads.Learnt, unset-all-reads.Asked, unset-all-reads.Learnt, body-place-reads.Asked, body-place-reads.Learnt, narrow-goal-below t, narrow-goal.Post) (narrow-rule-at t) narrow-rule.Post
-narrow-rule-narrow-goal-requires t c κs = (omega (arith, c .before .before .before .before .before .before .before .before .before .before .before .before .before .before .before .before .before .before .before .before .before .before .before .before .before .before .before .before .before .before .before .before .before .before .pre .0), tt)
+narrow-rule-narrow-goal-requires : (t : ℕ) → narrow-rule-lts.Need-narrow-goal-requires (open-clause-reads.Asked, open-clause-reads.Learnt, clause-parts-reads.Asked, clause-parts-reads.Learnt, same-as-reads.Asked, same-as-reads.Learnt, spend-reads.Asked, spend-reads.Learnt, unset-all-reads.Asked, unset-all-reads.Learnt, set-beside-reads.Asked, set-beside-reads.Learnt, body-place-reads.Asked, body-place-reads.Learnt, narrow-goal-below t, narrow-goal.Post) (narrow-rule-at t) narrow-rule.Post
+narrow-rule-narrow-goal-requires t c κs = (omega (arith, c .before .before .before .before .before .before .before .before .before .before .before .before .before .before .before .before .before .before .before .before .before .before .before .before .before .before .before .before .before .before .before .before .before .before .before .before .before .before .pre .0), tt)
 
-narrow-rule-same-length-7 : (t : ℕ) → narrow-rule-lts.Need-same-length-7 (open-clause-reads.Asked, open-clause-reads.Learnt, clause-parts-reads.Asked, clause-parts-reads.Learnt, same-as-reads.Asked, same-as-reads.Learnt, spend-reads.Asked, spend-reads.Learnt, unset-all-reads.Asked, unset-all-reads.Learnt, body-place-reads.Asked, body-place-reads.Learnt, narrow-goal-below t, narrow-goal.Post) (narrow-rule-at t) narrow-rule.Post
-narrow-rule-same-length-7 t c = c .before .before .before .before .narrow-goal .kept .1 .1 .1 .0 ∙ (c .before .before .before .before .before .before .before .before .before .before .unset-all .kept .0 ∙ c .before .before .before .before .before .before .before .before .before .before .before .before .before .before .before .before .before .before .before .before .before .before .before .before .before .before .before .before .before .before .before .before .open-clause .kept .0)
+narrow-rule-same-length-7 : (t : ℕ) → narrow-rule-lts.Need-same-length-7 (open-clause-reads.Asked, open-clause-reads.Learnt, clause-parts-reads.Asked, clause-parts-reads.Learnt, same-as-reads.Asked, same-as-reads.Learnt, spend-reads.Asked, spend-reads.Learnt, unset-all-reads.Asked, unset-all-reads.Learnt, set-beside-reads.Asked, set-beside-reads.Learnt, body-place-reads.Asked, body-place-reads.Learnt, narrow-goal-below t, narrow-goal.Post) (narrow-rule-at t) narrow-rule.Post
+narrow-rule-same-length-7 t c = c .before .before .before .before .narrow-goal .kept .1 .1 .1 .0 ∙ (c .before .before .before .before .before .before .before .before .before .before .set-beside .kept .1 .1 .1 .0 ∙ (c .before .before .before .before .before .before .before .before .before .before .before .before .before .before .unset-all .kept .0 ∙ c .before .before .before .before .before .before .before .before .before .before .before .before .before .before .before .before .before .before .before .before .before .before .before .before .before .before .before .before .before .before .before .before .before .before .before .before .open-clause .kept .0))
 
-narrow-rule-same-length-8 : (t : ℕ) → narrow-rule-lts.Need-same-length-8 (open-clause-reads.Asked, open-clause-reads.Learnt, clause-parts-reads.Asked, clause-parts-reads.Learnt, same-as-reads.Asked, same-as-reads.Learnt, spend-reads.Asked, spend-reads.Learnt, unset-all-reads.Asked, unset-all-reads.Learnt, body-place-reads.Asked, body-place-reads.Learnt, narrow-goal-below t, narrow-goal.Post) (narrow-rule-at t) narrow-rule.Post
-narrow-rule-same-length-8 t c = c .before .before .before .before .narrow-goal .kept .1 .1 .1 .1 .1 .1 .1 .1 .1 .0 ∙ c .before .before .before .before .before .before .before .before .before .before .before .before .before .before .before .spend .ensures .long
+narrow-rule-same-length-8 : (t : ℕ) → narrow-rule-lts.Need-same-length-8 (open-clause-reads.Asked, open-clause-reads.Learnt, clause-parts-reads.Asked, clause-parts-reads.Learnt, same-as-reads.Asked, same-as-reads.Learnt, spend-reads.Asked, spend-reads.Learnt, unset-all-reads.Asked, unset-all-reads.Learnt, set-beside-reads.Asked, set-beside-reads.Learnt, body-place-reads.Asked, body-place-reads.Learnt, narrow-goal-below t, narrow-goal.Post) (narrow-rule-at t) narrow-rule.Post
+narrow-rule-same-length-8 t c = c .before .before .before .before .narrow-goal .kept .1 .1 .1 .1 .1 .1 .1 .1 .1 .0 ∙ c .before .before .before .before .before .before .before .before .before .before .before .before .before .before .before .before .before .before .before .spend .ensures .long
 
-narrow-rule-returns-6 : (t : ℕ) → narrow-rule-lts.Need-returns-6 (open-clause-reads.Asked, open-clause-reads.Learnt, clause-parts-reads.Asked, clause-parts-reads.Learnt, same-as-reads.Asked, same-as-reads.Learnt, spend-reads.Asked, spend-reads.Learnt, unset-all-reads.Asked, unset-all-reads.Learnt, body-place-reads.Asked, body-place-reads.Learnt, narrow-goal-below t, narrow-goal.Post) (narrow-rule-at t) narrow-rule.Post
-narrow-rule-returns-6 t c = let p = c .before .before .before .before .before .before .before .before .before .before .before .before .before .before .before .before .before .before .before .before .before .before .before .before .before .clause-parts .result in
-    (more-then (c .before .before .before .before .before .before .before .before .before .before .before .before .before .before .before .spend .ensures) (c .before .before .before .before .narrow-goal .ensures .0 refl), λ own. rules.rule-goes (c .before .before .before .before .before .before .before .before .before .before .before .before .before .before .before .before .before .before .before .before .before .before .before .before .before .before .before .before .before .before .before .before .before .before .before .before .before .before .before .args .k) (c .before .before .before .before .before .before .before .before .before .before .before .before .before .before .before .before .before .before .before .before .before .before .before .before .before .before .before .before .before .before .before .before .open-clause .ensures) (c .before .before .before .before .before .before .before .before .before .before .before .before .before .before .before .before .before .before .before .before .before .before .before .before .before .before .before .before .x .given .1) (c .before .before .before .before .before .before .before .before .before .before .before .before .before .before .before .before .before .before .before .before .before .before .before .before .before .clause-parts .ensures) (not-false (p .found) (c .before .before .before .before .before .before .before .before .before .before .before .before .before .before .before .before .before .before .before .before .before .before .before .if1 .left)) (not-false (p .body) (c .before .before .before .before .before .before .before .before .before .before .before .before .before .before .before .before .before .before .before .before .before .if2 .left)) (c .before .before .before .before .before .before .before .before .before .before .before .before .before .before .before .before .before .before .before .before .same-as .ensures) (c .before .before .before .before .before .before .before .before .before .before .before .before .before .before .before .before .before .before .u .given .1) (c .before .before .before .before .before .before .before .before .before .before .unset-all .ensures) (c .before .before .before .before .before .before .before .body-place .ensures) (c .before .before .before .before .narrow-goal .ensures .1))
+narrow-rule-returns-6 : (t : ℕ) → narrow-rule-lts.Need-returns-6 (open-clause-reads.Asked, open-clause-reads.Learnt, clause-parts-reads.Asked, clause-parts-reads.Learnt, same-as-reads.Asked, same-as-reads.Learnt, spend-reads.Asked, spend-reads.Learnt, unset-all-reads.Asked, unset-all-reads.Learnt, set-beside-reads.Asked, set-beside-reads.Learnt, body-place-reads.Asked, body-place-reads.Learnt, narrow-goal-below t, narrow-goal.Post) (narrow-rule-at t) narrow-rule.Post
+narrow-rule-returns-6 t c = let p = c .before .before .before .before .before .before .before .before .before .before .before .before .before .before .before .before .before .before .before .before .before .before .before .before .before .before .before .before .before .clause-parts .result in
+    (more-then (c .before .before .before .before .before .before .before .before .before .before .before .before .before .before .before .before .before .before .before .spend .ensures) (c .before .before .before .before .narrow-goal .ensures .0 refl), λ own. rules.rule-goes (c .before .before .before .before .before .before .before .before .before .before .before .before .before .before .before .before .before .before .before .before .before .before .before .before .before .before .before .before .before .before .before .before .before .before .before .before .before .before .before .before .before .before .before .args .k) (c .before .before .before .before .before .before .before .before .before .before .before .before .before .before .before .before .before .before .before .before .before .before .before .before .before .before .before .before .before .before .before .before .before .before .before .before .open-clause .ensures) (c .before .before .before .before .before .before .before .before .before .before .before .before .before .before .before .before .before .before .before .before .before .before .before .before .before .before .before .before .before .before .before .before .x .given .1) (c .before .before .before .before .before .before .before .before .before .before .before .before .before .before .before .before .before .before .before .before .before .before .before .before .before .before .before .before .before .clause-parts .ensures) (not-false (p .found) (c .before .before .before .before .before .before .before .before .before .before .before .before .before .before .before .before .before .before .before .before .before .before .before .before .before .before .before .if1 .left)) (not-false (p .body) (c .before .before .before .before .before .before .before .before .before .before .before .before .before .before .before .before .before .before .before .before .before .before .before .before .before .if2 .left)) (c .before .before .before .before .before .before .before .before .before .before .before .before .before .before .before .before .before .before .before .before .before .before .before .before .same-as .ensures) (c .before .before .before .before .before .before .before .before .before .before .before .before .before .before .before .before .before .before .before .before .before .before .u .given .1) (c .before .before .before .before .before .before .before .before .before .before .before .before .before .before .unset-all .ensures) (c .before .before .before .before .before .before .before .before .before .before .set-beside .ensures) (c .before .before .before .before .before .before .before .body-place .ensures) (c .before .before .before .before .narrow-goal .ensures .1))
 
 pub +narrow-and+narrow-atom+narrow-clause+narrow-goal+narrow-rule-spec : {M : Type 1} → statement M
 +narrow-and+narrow-atom+narrow-clause+narrow-goal+narrow-rule-spec =
@@ -488,6 +492,8 @@ pub +narrow-and+narrow-atom+narrow-clause+narrow-goal+narrow-rule-spec : {M : Ty
       spend-reads.Learnt,
       unset-all-reads.Asked,
       unset-all-reads.Learnt,
+      set-beside-reads.Asked,
+      set-beside-reads.Learnt,
       body-place-reads.Asked,
       body-place-reads.Learnt,
       narrow-goal-below t,
@@ -515,6 +521,7 @@ pub +narrow-and+narrow-atom+narrow-clause+narrow-goal+narrow-rule-spec : {M : Ty
     (narrow-rule-same-length-6 t)
     (narrow-rule-returns-5 t)
     (narrow-rule-unset-all-requires t)
+    (narrow-rule-set-beside-requires t)
     (narrow-rule-body-place-requires t)
     (narrow-rule-narrow-goal-requires t)
     (narrow-rule-same-length-7 t)
