@@ -1,39 +1,52 @@
 -- The first option that has a proof (document 01, "Which strip the search writes"). A candidate by a loop that asks each in order: where the loop is, those before it did not do, so the first from here on is the first of all. A clause as crate provable finds it.
 -- The last law of a loop, and that of the clause, ends in the contract of a function of src/first.
-use Prim.Native.Nat.{ℕ, zero, suc, _+_, _-_, _≤_, _<_}
+use Prim.Native.Nat.{ℕ, zero, suc, _+_, _-_, _%_, _≤_, _<_}
 use native.Mathlib.Omega.{arith}
 use mathlib.Core.Path.{_≡_, refl, sym, _∙_, ap}
 use mathlib.Core.Bool.{Bool, true, false, false≢true}
 use mathlib.Core.List.{List}
 use mathlib.Core.Option.{Option, none, some, Option·some-injective}
-use lib.Dec.{ltb}
+use lib.Dec.{ltb, leb}
 use lib.ListN.{length, getD}
-use borrow.Author.Tests.{ltb-true, ltb-false}
+use borrow.Author.Tests.{ltb-true, ltb-false, leb-true}
 use Rattle.basics.specs.Choice.{choose, nope}
 use Rattle.harrop.specs.declared.Binding.{Binding}
 use Rattle.harrop.specs.declared.Binding.the-variants.{Candidate}
-use Rattle.harrop.specs.Formula.{Term, Atom, Clause}
+use Rattle.harrop.specs.Formula.{Term, Atom, Goal, Clause}
 use Rattle.harrop.specs.Bindings.{Bindings}
-use Rattle.harrop.specs.Place.{Hand, Plain, listed}
+use Rattle.harrop.specs.Place.{AtHand, Hand, Plain, listed}
 use Rattle.sexp.specs.Sexp.{nesting}
 use Rattle.packet.specs.Written.{clauseSexp}
 use Rattle.room.specs.Layout.{candidatesWord}
 use Rattle.room.specs.Frame.{bindingOf, bindingsIn, boundTo}
-use Rattle.room.specs.Where.{Files, plus}
+use Rattle.room.specs.Where.{Files, Live, plus}
 use Rattle.room.specs.declared.Spot.{Spot}
 use Rattle.room.specs.declared.Where.{Where}
 use Rattle.room.proofs.FrameLaws.{word-binding, bound-in}
+use Rattle.room.proofs.WhereLaws.{file-small}
+use Rattle.heads.specs.Predicate.{ClauseThere}
 use Rattle.keys.specs.Keys.{AtomKeyAt, PredicateKeyAt}
+use Rattle.table.specs.Slots.{numbersOf, numbersWord, wordsIn, Carried}
+use Rattle.table.specs.Recall.{Chose}
+use Rattle.table.proofs.GoodLaws.{words-alike}
 use Rattle.proving.specs.Provable.{candidateDoes, clauseDoes, serves}
 use Rattle.proving.specs.Stock.{Stock, Keeps}
-use Rattle.proving.specs.Proving.{Taken, Finding, PassingWith, passesWith}
+use Rattle.proving.specs.Proving.{Ready, Taken, Finding, PassingWith, passesWith}
+use Rattle.proving.specs.Hand.{clauseIn}
+use Rattle.proving.specs.Parts.{PartsOf, isPlain, quantifiers}
+use Rattle.proving.specs.declared.Chosen.{Chosen}
+use Rattle.proving.specs.declared.Chosen.the-variants as C
+use Rattle.proving.specs.declared.plain.Parts.{Parts}
 use Rattle.proving.specs.First.{numberOf}
 use Rattle.proving.specs.Filling.{LocatingAt, LocatingFirst}
-use Rattle.proving.proofs.StockLaws.{keeps-same, keeps-then}
+use Rattle.proving.proofs.StockLaws.{keeps-same, keeps-then, stock-low}
+use Rattle.proving.proofs.HandLaws.{hand-is}
+use Rattle.proving.proofs.ChoiceLaws.{words-length}
+use Rattle.proving.proofs.RecallLaws.{chosen-here}
 use Rattle.proving.proofs.AtomLaws.{numbers}
 use Rattle.proving.proofs.PassingLaws.{taken-kept}
 use Rattle.drawing.specs.Chosen.{firstYes, candidateFrom, clauseFrom}
-use Rattle.drawing.specs.Writing.{FirstClause, FirstThrough, NumberThrough}
+use Rattle.drawing.specs.Writing.{FirstClause, HasNumbers, FirstThrough, NumberThrough}
 use Rattle.drawing.proofs.TakenLaws.{yes-here, yes-none}
 
 -- the numbers from j on, where j is known
@@ -66,6 +79,55 @@ ThroughLeft f room w x nest left now j =
     nesting (clauseSexp (Clause.allD q d)) ≤ suc nest →
     Taken f room ds us w x left o c bs a (Clause.allD q d) bs′ →
     Keeps (Stock f ds us (w .supposed) c) (w .supposed) (x .base + x .count) room now × (candidateFrom (listed us) o q (passesWith us left o c bs a d bs′) 0 ≡ candidateFrom (listed us) o q (passesWith us left o c bs a d bs′) j)
+
+module _ {f : Files} {room : List ℕ} {w : Where} where
+  -- whether a slot has enough words, by the parts of the clause
+  pub numbers-not : (at k : ℕ) → HasNumbers f room w at k false
+  numbers-not at k ds us height o c bs g r y = absurd (false≢true y)
+
+  pub numbers-told : {q : Chosen} {x : Spot} {p : Parts} {n : ℕ} (at k : ℕ) → q ≡ clauseIn room k (w .supposed) → q ≡ C.Clause x → PartsOf f x 0 64 p → n ≡ numbersOf room at → HasNumbers f room w at k (leb (p .own) n)
+  numbers-told {x = x} {p = p} {n = n} at k e q parts many ds us height o c bs g r y h there plain =
+      let (h′, there′, b) = hand-is (r .place) k (C.Clause x) (sym e ∙ q) in
+      let same : h′ ≡ h = Option·some-injective h′ h (sym there′ ∙ there) in
+      let here : ClauseThere f x (h′ .clause) = record { stands = b .stands; shallow = omega (arith, b .shallow); small = file-small (r .place .booked) (x .source) } in
+      let plain′ : isPlain (h′ .clause) ≡ true = ap (λ (z : AtHand Plain). isPlain (z .clause)) same ∙ plain in
+      let found = parts .told (h′ .clause) (here .shallow) here (omega (arith, b .shallow)) (omega arith) ∙ plain′ in
+      let own = parts .parts (h′ .clause) (here .shallow) here (omega (arith, b .shallow)) (omega arith) found .own in
+      let l = leb-true (p .own) n y in
+      let z : quantifiers (h′ .clause) ≡ quantifiers (h .clause) = ap (λ (z : AtHand Plain). quantifiers (z .clause)) same in
+      omega arith
+
+-- the clause that the table has kept for this atom at this height, and the numbers of its path on top of the stack
+module _ {f : Files} {room : List ℕ} {w : Where} (left : ℕ) {after : List ℕ} {height at k : ℕ} {e : Bool} (high : height ≡ plus left 1) (step : at % 16 ≡ 0) (some′ : k ≡ 0 → ⊥) (by : Chose f room w height at k) (many : HasNumbers f room w at (k - 1) e) (enough : e ≡ true) (taken : at + 16 ≤ length room → Carried room after (numbersWord room at) (numbersOf room at) (w .top)) where
+  carried : Carried room after (numbersWord room at) (numbersOf room at) (w .top)
+  carried = taken (by (omega arith) .0 .inside)
+
+  chosen-kept : {ds : List (Clause Plain)} {us : List Term} {o : List Plain} {c : Hand Plain} {bs : Bindings} {a : Atom} → Ready f room ds us w (suc left) o c bs (Goal.atom a) → Keeps (Stock f ds us (w .supposed) c) (w .supposed) (w .top) room after
+  chosen-kept rd =
+      record {
+        words = λ i l. carried .others i (λ p q. live i l p);
+        stock = stock-low (carried .long) (λ i l. carried .others i (λ p q. omega (arith, rd .low)));
+      }
+    where
+      live : (i : ℕ) → Live (w .supposed) (w .top) i → w .top ≤ i → ⊥
+      live i (Live.low l) p = omega (arith, l, p, rd .enough .supposed, rd .place .framed .above, rd .place .tight)
+      live i (Live.high l m) p = omega arith
+
+  pub clause-chosen : FirstClause f room after w left (k - 1)
+  unfolding clauseFrom
+  clause-chosen ds us o c bs a i rd h =
+      let y = chosen-here rd height at k (omega (arith, high, rd .enough .supposed)) step (omega arith) by in
+      record { kept = chosen-kept rd; done = yes-found (clauseDoes (listed us) o c (serves (listed us) left o c bs a)) i (k - 1) (length c) (omega (arith, y .few)) (y .before) (λ l. y .here) h }
+
+  pub chosen-located : LocatingAt f room after w left (k - 1)
+  chosen-located ds us o c bs a rd h there plain =
+      let y = chosen-here rd height at k (omega (arith, high, rd .enough .supposed)) step (omega arith) by in
+      let t = by (omega arith) .0 in
+      let ns = wordsIn room (numbersWord room at) (numbersOf room at) in
+      let size : length ns ≡ numbersOf room at = words-length room (numbersWord room at) (numbersOf room at) in
+      y .numbers bs a refl h there plain (omega (arith, many ds us (suc left) o c bs (Goal.atom a) rd enough h there plain, size)) after (w .top)
+      (ap (λ (m : ℕ). wordsIn after (w .top) m) size
+      ∙ words-alike room after (numbersWord room at) (w .top) (numbersOf room at) (carried .there (omega (arith, t .inside, t .first, rd .low)) (λ i j l m q. omega (arith, t .first, rd .low))))
 
 module _ {f : Files} {room : List ℕ} {w : Where} {left : ℕ} where
   -- the clause for an atom, which crate provable finds by the numbers of the atom and of its predicate

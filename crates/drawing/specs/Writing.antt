@@ -5,11 +5,11 @@ use mathlib.Core.Path.{_≡_}
 use mathlib.Core.Bool.{Bool, true}
 use mathlib.Core.List.{List}
 use mathlib.Core.Option.{Option, some}
-use lib.ListN.{getD}
+use lib.ListN.{getD, getElem?}
 use Rattle.harrop.specs.declared.Binding.the-variants.{Candidate}
 use Rattle.harrop.specs.Formula.{Term, Atom, Goal, Clause, Step, Strip}
 use Rattle.harrop.specs.Bindings.{Bindings}
-use Rattle.harrop.specs.Place.{Hand, Plain, End, listed}
+use Rattle.harrop.specs.Place.{AtHand, Hand, Plain, End, listed}
 use Rattle.harrop.specs.Search.{first}
 use Rattle.sexp.specs.Sexp.{nesting}
 use Rattle.packet.specs.Written.{clauseSexp}
@@ -21,7 +21,9 @@ use Rattle.room.specs.declared.Where.{Where}
 use Rattle.proving.specs.Provable.{serves}
 use Rattle.proving.specs.Stock.{Stock, Keeps}
 use Rattle.proving.specs.Proving.{Ready, Taken, provesWith, passesWith}
+use Rattle.proving.specs.Parts.{isPlain, quantifiers}
 use Rattle.proving.specs.First.{PathIn}
+use Rattle.table.specs.Slots.{numbersOf}
 use Rattle.heads.specs.Heads.{goalWord, clauseWord}
 use Rattle.drawing.specs.Chosen.{candidateFrom, clauseFrom, way}
 use Rattle.drawing.specs.Drawn.{Draws, DrawsRest, ended}
@@ -87,6 +89,13 @@ FirstClause f room after w left r =
     Ready f room ds us w (suc left) o c bs (Goal.atom a) →
     clauseFrom (listed us) o c (serves (listed us) left o c bs a) 0 ≡ some k →
     Did (Stock f ds us (w .supposed) c) (w .supposed) (w .top) room after (r ≡ k)
+
+-- whether a slot of the table has as many words for numbers as clause k has quantifiers around it
+abbrev pub HasNumbers : Files → List ℕ → Where → ℕ → ℕ → Bool → Type 0
+HasNumbers f room w at k r =
+    (ds : List (Clause Plain)) (us : List Term) (height : ℕ) (o : List Plain) (c : Hand Plain) (bs : Bindings) (g : Goal Plain) →
+    Ready f room ds us w height o c bs g →
+    r ≡ true → (h : AtHand Plain) → getElem? c k ≡ some h → isPlain (h .clause) ≡ true → quantifiers (h .clause) ≤ numbersOf room at
 
 -- the first candidate on the way into a clause
 abbrev pub FirstThrough : Files → List ℕ → List ℕ → Where → Spot → ℕ → ℕ → ℕ → Type 0

@@ -21,7 +21,7 @@ use Rattle.narrow.specs.Kept.{ArgumentsFilled}
 use Rattle.narrow.proofs.FillLaws.{heads-kept}
 use Rattle.table.specs.Recall.{TableOnly, Empty}
 use Rattle.table.proofs.GoodLaws.{good-empty}
-use Rattle.proving.specs.Stock.{truth, Stock, Keeps}
+use Rattle.proving.specs.Stock.{truth, choice, Stock, Keeps}
 use Rattle.proving.specs.Proving.{Ready, Proving}
 use Rattle.proving.proofs.StockLaws.{kept-below, keys-kept, keys-below, heads-below, arguments-below}
 use Rattle.proving.proofs.ProvableLaws.{provable-is}
@@ -62,7 +62,7 @@ set-out rs ts room tables keys heads arguments after e t k d g o n h gs b s low 
             keys = keys-below few many o (keys-kept few many (λ i l. g .within .below i (omega arith)) (λ i l m. g .within .below i (omega arith)) (λ i l m. g .within .above i (omega arith)) keyed);
             heads = heads-below rs (b .rules) few o (heads-kept rs arguments heads (b .rules) (λ j m. (g .within .below (3712 + j) (omega (arith, m, few)), g .within .below (3968 + j) (omega (arith, m, few)))) heading);
             arguments = arguments-below (b .rules) (b .candidates) few o (g .right (omega (arith, d .within .long, k .within .long)) gs (b .rules) (b .candidates) headed keyed heading);
-            good = good-empty (filesOf rs gs ts) (b .candidates) (truth (b .candidates) (length (b .rules)) (atStart (b .rules))) 0 after n;
+            good = good-empty (filesOf rs gs ts) (b .candidates) (truth (b .candidates) (length (b .rules)) (atStart (b .rules))) (choice (b .candidates) (length (b .rules)) (atStart (b .rules))) 0 after n;
           };
     }
 

@@ -33,6 +33,7 @@ use proving::may_fit;
 use proving::meet;
 use proving::open_clause;
 use proving::parts_of;
+use proving::rule_number;
 use proving::unset_all;
 use proving::word_of;
 use room::Spot;
@@ -203,7 +204,7 @@ fn prove_atom<'a>(
     }
 }
 
-// An atom by the clauses at hand; the table keeps what is found. A fact is found by its number just as well.
+// An atom by the clauses at hand; the table keeps what is found, with the clause if it is a rule and the numbers that it has left. A fact is found by its number just as well.
 fn decide<'a>(
     rules: &'a [u8],
     goal: &'a [u8],
@@ -219,13 +220,14 @@ fn decide<'a>(
 {
     let k = find_clause(rules, goal, terms, room, w, predicate, key, left);
     if clauses(room, w.supposed) <= k {
-        keep(rules, goal, terms, room, w, plus(left, 1), at, false);
+        keep(rules, goal, terms, room, w, plus(left, 1), at, false, 0);
         return false;
     }
     if is_fact(rules, room, k) {
         return true;
     }
-    keep(rules, goal, terms, room, w, plus(left, 1), at, true);
+    let number = rule_number(room, k);
+    keep(rules, goal, terms, room, w, plus(left, 1), at, true, number);
     true
 }
 

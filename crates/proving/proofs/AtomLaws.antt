@@ -19,14 +19,18 @@ use Rattle.equal.proofs.AtomLaws.{atom-at}
 use Rattle.heads.proofs.HeadLaws.{goal-is}
 use Rattle.keys.specs.Key.{atomKey, predicateKey}
 use Rattle.keys.specs.Keys.{PredicateKeyAt, AtomKeyAt, NextClause}
+use Rattle.table.specs.Slots.{wordsIn}
 use Rattle.table.specs.Recall.{Says, Recalls, TableOnly}
 use Rattle.table.specs.Recall as table
 use Rattle.table.specs.declared.Recalled.{Recalled}
 use Rattle.proving.specs.Provable as spec
-use Rattle.proving.specs.Stock.{Stock, Keeps}
+use Rattle.proving.specs.Hand.{RuleNumber}
+use Rattle.proving.specs.Stock.{Chooses, Stock, Keeps}
 use Rattle.proving.specs.Proving.{Ready, ProvingAs, ProvingBy, Finding, Deciding}
+use Rattle.proving.specs.Filling.{LocatingFirst}
 use Rattle.proving.proofs.WalkLaws.{any-no}
 use Rattle.proving.proofs.TruthLaws.{passed-over}
+use Rattle.proving.proofs.ChoiceLaws.{chooses}
 use Rattle.proving.proofs.StockLaws.{keeps-same, keeps-then}
 use Rattle.proving.proofs.ReadyLaws.{ready-kept}
 use Rattle.proving.proofs.RecallLaws.{recalled-so, keeps-entry}
@@ -71,6 +75,14 @@ module _ {f : Files} {room : List ℕ} {ds : List (Clause Plain)} {us : List Ter
         k us a (r .place .booked .candidates) (r .stock .keys .candidates) (atom-at a x (r .place .scoped)) ∙ ap (λ (y : Bindings). atomKey (replacedAtom us y a)) (x .holds),
       )
 
+-- the number of a rule fits a word
+small : (room : List ℕ) (k number : ℕ) → getD room rulesWord 0 ≤ 256 → RuleNumber room k number → number ≤ 4294967295
+small room k number l rule = go (ltb 0 number) refl
+  where
+    go : (b : Bool) → ltb 0 number ≡ b → number ≤ 4294967295
+    go true e = let (m, q) = rule (ltb-true 0 number e) in omega arith
+    go false e = let z = ltb-false 0 number e in omega arith
+
 -- where the loop over clauses is: what the place relies on is kept, and none before clause k serves the atom
 abbrev pub FindLeft : Files → List ℕ → Where → ℕ → ℕ → ℕ → List ℕ → ℕ → Type 0
 FindLeft f room w predicate key left now k =
@@ -104,12 +116,12 @@ module _ {f : Files} {room : List ℕ} {w : Where} {left predicate key : ℕ} wh
       record { kept = kept; few = omega (arith, at-hand r); before = λ j l. early j (omega arith); here = λ m. absurd (omega (arith, at-hand r)) }
 
   -- what was found decides, and may be kept
-  pub decide-none : {mid after : List ℕ} {k n height : ℕ} (at : ℕ) → Finding f room mid w predicate key left k → length mid ≡ length room → n ≡ plus (getD mid rulesWord 0) (w .supposed) → n ≤ k → height ≡ plus left 1 → TableOnly mid after → table.Keeps f mid after w height at false → Deciding f room after w predicate key at left false
+  pub decide-none : {mid after : List ℕ} {k n height : ℕ} (at : ℕ) → Finding f room mid w predicate key left k → length mid ≡ length room → n ≡ plus (getD mid rulesWord 0) (w .supposed) → n ≤ k → height ≡ plus left 1 → TableOnly mid after → table.Keeps f mid after w height at false 0 → Deciding f room after w predicate key at left false
   decide-none {mid} {after} {height = height} at p l q b e only kp ds us o c bs a r n n′ z =
       let x = p ds us o c bs a r n n′ in
       let r′ = ready-kept (x .kept) l r in
       let so = none-does us left o c bs a (λ j m. x .before j (omega (arith, at-hand r′))) in
-      record { kept = keeps-then room mid after (omega arith) (omega arith) (x .kept) (keeps-entry r′ height at (omega (arith, r .enough .supposed)) z so only kp); answer = sym so }
+      record { kept = keeps-then room mid after (omega arith) (omega arith) (x .kept) (keeps-entry r′ height at 0 (omega (arith, r .enough .supposed)) z so (omega arith) (λ y l. absurd (omega arith)) only kp); answer = sym so }
 
   pub decide-fact : {mid : List ℕ} {k n : ℕ} (at : ℕ) → Finding f room mid w predicate key left k → length mid ≡ length room → n ≡ plus (getD mid rulesWord 0) (w .supposed) → k < n → Deciding f room mid w predicate key at left true
   decide-fact {k = k} at p l q b ds us o c bs a r n n′ z =
@@ -117,13 +129,17 @@ module _ {f : Files} {room : List ℕ} {w : Where} {left predicate key : ℕ} wh
       let m : k < length c = omega (arith, at-hand (ready-kept (x .kept) l r)) in
       record { kept = x .kept; answer = sym (one-does us left o c bs a k m (x .here m)) }
 
-  pub decide-some : {mid after : List ℕ} {k n height : ℕ} (at : ℕ) → Finding f room mid w predicate key left k → length mid ≡ length room → n ≡ plus (getD mid rulesWord 0) (w .supposed) → k < n → height ≡ plus left 1 → TableOnly mid after → table.Keeps f mid after w height at true → Deciding f room after w predicate key at left true
-  decide-some {mid} {after} {k} {height = height} at p l q b e only kp ds us o c bs a r n n′ z =
+  pub decide-some : {mid after : List ℕ} {k n height number : ℕ} (at : ℕ) → Finding f room mid w predicate key left k → LocatingFirst f room mid w predicate key left k → length mid ≡ length room → n ≡ plus (getD mid rulesWord 0) (w .supposed) → k < n → height ≡ plus left 1 → RuleNumber mid k number → TableOnly mid after → table.Keeps f mid after w height at true number → Deciding f room after w predicate key at left true
+  decide-some {mid} {after} {k} {height = height} {number = number} at p located l q b e rule only kp ds us o c bs a r n n′ z =
       let x = p ds us o c bs a r n n′ in
       let r′ = ready-kept (x .kept) l r in
       let m : k < length c = omega (arith, at-hand r′) in
       let so = one-does us left o c bs a k m (x .here m) in
-      record { kept = keeps-then room mid after (omega arith) (omega arith) (x .kept) (keeps-entry r′ height at (omega (arith, r .enough .supposed)) z so only kp); answer = sym so }
+      let counted = r′ .place .booked .rules .counted in
+      let by : 0 < number → (i : ℕ) → Chooses us left o c (replacedAtom us bs a) (number - 1) (wordsIn mid (w .top) i) = λ y i.
+      subst (λ (j : ℕ). Chooses us left o c (replacedAtom us bs a) j (wordsIn mid (w .top) i)) {x = k} {y = number - 1} (omega (arith, rule y .1))
+      (chooses mid (w .top) k i m (λ h there. r′ .place .hand .rule k h (omega (arith, rule y .0)) there .0) (x .before) (x .here m) (located ds us o c bs a r n n′)) in
+      record { kept = keeps-then room mid after (omega arith) (omega arith) (x .kept) (keeps-entry r′ height at number (omega (arith, r .enough .supposed)) z so (small mid k number (omega (arith, counted, r′ .place .booked .rules .few)) rule) (λ y. by) only kp); answer = sym so }
 
   -- an atom that no clause can serve, and one that is decided
   pub atom-barred : (n k : ℕ) → PredicateKeyAt f (w .goal) predicate → AtomKeyAt f room (w .goal) key → n ≡ plus (getD room rulesWord 0) (w .supposed) → NextClause room predicate key 0 n k → n ≤ k → ProvingAs W.Atom f room room w left false

@@ -65,7 +65,7 @@ pub record ClauseAt (f : Files) (room : List ℕ) (x : Spot) (top : ℕ) (d : Cl
   pub scoped : clauseOk (length bs) d ≡ true
 
 -- what is at hand under a number
-abbrev HandAt : Files → List ℕ → ℕ → Hand Plain → ℕ → Chosen → Type 0
+abbrev pub HandAt : Files → List ℕ → ℕ → Hand Plain → ℕ → Chosen → Type 0
 HandAt f room top c k C.Nothing = getElem? c k ≡ none
 HandAt f room top c k (C.Clause x) = (h : AtHand Plain) × (getElem? c k ≡ some h) × ClauseAt f room x top (h .clause) (h .bindings)
 

@@ -1,6 +1,7 @@
 pub mod ProvableLaws
 pub mod WalkLaws
 pub mod TruthLaws
+pub mod ChoiceLaws
 pub mod StockLaws
 pub mod RecallLaws
 pub mod ReadyLaws

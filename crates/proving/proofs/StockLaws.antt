@@ -27,8 +27,10 @@ use Rattle.narrow.proofs.FillLaws.{heads-kept}
 use Rattle.table.specs.Slots.{tableWord}
 use Rattle.table.specs.Recall.{TableOnly, Forgets}
 use Rattle.table.proofs.GoodLaws.{good-kept, good-fewer, good-truth}
+use Rattle.table.proofs.ForgetLaws.{forgets-good}
 use Rattle.proving.specs.Stock.{truth, Stock, Keeps}
 use Rattle.proving.proofs.TruthLaws.{truth-before}
+use Rattle.proving.proofs.ChoiceLaws.{choice-later, choice-sooner}
 
 -- calls one after the other
 module _ {right : List ℕ → Type 0} where
@@ -103,7 +105,7 @@ module _ {f : Files} {ds : List (Clause Plain)} {us : List Term} {m : ℕ} {c : 
         keys = keys-below (b .rules .few) (b .candidates .few) t (z .keys);
         heads = heads-below (f .rules) ds (b .rules .few) t (z .heads);
         arguments = arguments-below ds us (b .rules .few) t (z .arguments);
-        good = g f us (truth us (length ds) c) (truth us (length ds) (c ++ xs)) m e (truth-before us (length ds) m c xs (omega arith)) (z .good);
+        good = forgets-good m g e (truth-before us (length ds) m c xs (omega arith)) (choice-later us (length ds) m c xs (omega arith)) (z .good);
       })
 
   -- and back under fewer
@@ -113,5 +115,5 @@ module _ {f : Files} {ds : List (Clause Plain)} {us : List Term} {m : ℕ} {c : 
         keys = s .keys;
         heads = s .heads;
         arguments = s .arguments;
-        good = good-truth (λ i p h a q. sym (truth-before us (length ds) m c xs n i p h a q)) (good-fewer l (s .good));
+        good = good-truth (λ i p h a q. sym (truth-before us (length ds) m c xs n i p h a q)) (choice-sooner us (length ds) m c xs n) (good-fewer l (s .good));
       }

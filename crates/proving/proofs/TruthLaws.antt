@@ -92,7 +92,7 @@ truth-rises us n c s p (suc h) (suc h′) a e l =
     (ending-rises (listed us) (units p) a (proves h) (proves h′) (λ g bs z. provable-rises (listed us) (units p) h h′ hand bs g (omega arith) z)) hand e
 
 -- so many parameters, whatever they carry, which is nothing
-units-are : (o : List Plain) (p : ℕ) → length o ≡ p → o ≡ units p
+pub units-are : (o : List Plain) (p : ℕ) → length o ≡ p → o ≡ units p
 units-are [] zero e = refl
 units-are [] (suc p) e = absurd (omega arith)
 units-are (q ∷ o) zero e = absurd (omega arith)

@@ -12,7 +12,7 @@ use Rattle.harrop.specs.Bindings.{Bindings, meant, valueOf}
 use Rattle.harrop.specs.Place.{Hand, Plain, listed, allowed}
 use Rattle.room.specs.Frame.{bindingWord, boundTo}
 use Rattle.mentions.specs.Open.{isOpen}
-use Rattle.proving.specs.Proving.{passes}
+use Rattle.proving.specs.Provable.{passes}
 use Rattle.proving.specs.Frames.{setTo, Completes}
 
 -- from a frame in which only the first k variables may be unset to the one that is left; each unset variable gets a candidate before which none does, whatever the others become

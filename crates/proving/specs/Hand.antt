@@ -1,5 +1,5 @@
 -- The clauses at hand by the room's words, and the frame that one of them is taken apart in (document 01, "When a strip fits": clause k is at hand).
-use Prim.Native.Nat.{ℕ, _-_}
+use Prim.Native.Nat.{ℕ, _+_, _-_, _<_}
 use mathlib.Core.Path.{_≡_}
 use mathlib.Core.List.{List}
 use lib.Dec.{ltb}
@@ -35,3 +35,7 @@ Opened room after k m top (C.Clause y) = (x : Spot) × (clauseIn room k m ≡ C.
 -- the spot of a part, n bytes further on, with one variable more
 abbrev pub deeper : Spot → ℕ → Spot
 deeper x n = record { source = x .source; at = plus (x .at) n; base = x .base; count = plus (x .count) 1 }
+
+-- one more than the number of a clause that is a rule
+abbrev pub RuleNumber : List ℕ → ℕ → ℕ → Type 0
+RuleNumber room k r = 0 < r → (k < getD room rulesWord 0) × (r ≡ k + 1)

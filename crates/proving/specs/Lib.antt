@@ -1,10 +1,10 @@
 pub mod Provable
 pub mod Hand
-pub mod Stock
-pub mod Proving
 pub mod Parts
 pub mod Chain
 pub mod Frames
 pub mod First
+pub mod Stock
+pub mod Proving
 pub mod Filling
 pub mod Matching

@@ -7,9 +7,9 @@ use mathlib.Core.Option.{Option, none, some}
 use lib.ListN.{length, getElem?}
 use Rattle.basics.specs.Choice.{maybe}
 use Rattle.harrop.specs.declared.Binding.the-variants.{Candidate, Parameter}
-use Rattle.harrop.specs.Formula.{Atom, Goal, Clause}
+use Rattle.harrop.specs.Formula.{Term, Atom, Goal, Clause}
 use Rattle.harrop.specs.Bindings.{Bindings, replacedAtom, sameAtom}
-use Rattle.harrop.specs.Place.{Candidates, AtHand, Hand, End, allowed}
+use Rattle.harrop.specs.Place.{Candidates, AtHand, Hand, End, Plain, listed, allowed}
 
 -- whether there is an answer
 abbrev pub isSome : {A : Type 0} → Option A → Bool
@@ -64,3 +64,7 @@ module _ {Q : Type 0} (cs : Candidates Q) where
   -- what the end of a path is asked at an atom with height h left for the body
   abbrev pub serves : ℕ → List Q → Hand Q → Bindings → Atom → End Q → Bool
   serves h o c bs a = ending (replacedAtom (cs .terms) bs a) (λ g ds. provable h o c ds g)
+
+-- whether a path through a clause ends well
+abbrev pub passes : List Term → ℕ → List Plain → Hand Plain → Bindings → Atom → Clause Plain → Bindings → Bool
+passes us left o c bs a d bs′ = through (listed us) o d bs′ (serves (listed us) left o c bs a)

@@ -18,6 +18,7 @@ use Rattle.room.specs.Where.{Files, Framed, Means}
 use Rattle.room.specs.declared.Spot.{Spot}
 use Rattle.room.specs.declared.Where.{Where}
 use Rattle.proving.specs.Provable as provable
+pub use Rattle.proving.specs.Provable.{passes}
 use Rattle.heads.specs.Heads.{goalWord, clauseWord}
 use Rattle.keys.specs.Key.{atomKey, predicateKey}
 use Rattle.keys.specs.Keys.{keyWord}
@@ -93,9 +94,6 @@ Deciding f room after w predicate key at left r =
     Answers (Stock f ds us (w .supposed) c) (w .supposed) (w .top) room after (provable.provable (listed us) (suc left) o c bs (Goal.atom a)) r
 
 -- whether a path through a clause ends well
-abbrev pub passes : List Term → ℕ → List Plain → Hand Plain → Bindings → Atom → Clause Plain → Bindings → Bool
-passes us left o c bs a d bs′ = provable.through (listed us) o d bs′ (provable.serves (listed us) left o c bs a)
-
 abbrev pub Passing : Files → List ℕ → List ℕ → Where → Spot → ℕ → ℕ → Bool → Type 0
 Passing f room after w x nest left r =
     (ds : List (Clause Plain)) (us : List Term) (o : List Plain) (c : Hand Plain) (bs : Bindings) (a : Atom) (d : Clause Plain) (bs′ : Bindings) →

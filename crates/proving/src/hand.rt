@@ -14,7 +14,7 @@ ghost use Rattle.room.specs.Where as places;
 ghost use Rattle.basics.specs.Tells.{Tells};
 ghost use Rattle.packet.specs.declared.Word.the-variants as W;
 ghost use Rattle.reader.specs.WordAt.{WordAt};
-ghost use Rattle.proving.specs.Hand.{clauseIn, Opened};
+ghost use Rattle.proving.specs.Hand.{clauseIn, Opened, RuleNumber};
 ghost use Rattle.proving.specs.Hand as hand;
 
 // A word of the room; past the end, 0.
@@ -39,7 +39,7 @@ pub fn clauses(room: &[u32], supposes: usize) -> usize
 }
 
 // Where clause k stands: a rule, or one of those that are supposed.
-fn at_hand(room: &[u32], k: usize, supposes: usize) -> Chosen
+pub fn at_hand(room: &[u32], k: usize, supposes: usize) -> Chosen
     ensures { λ r. ⌜ r ≡ clauseIn (now (room .entry)) k supposes ⌝ }
 {
     let rules = word(room, 0) as usize;
@@ -68,6 +68,17 @@ pub fn is_fact(rules: &[u8], room: &[u32], k: usize) -> bool
         Word::Atom => true,
         _ => false,
     }
+}
+
+// One more than the number of a clause that is a rule; 0 for any other.
+pub fn rule_number(room: &[u32], k: usize) -> usize
+    ensures { λ r. ⌜ RuleNumber (now (room .entry)) k r ⌝ }
+{
+    let n = word(room, 0) as usize;
+    if k < n {
+        return k + 1;
+    }
+    0
 }
 
 // Clause k with a new frame on top of the stack, which holds its bindings.

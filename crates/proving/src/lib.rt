@@ -3,11 +3,13 @@ mod hand;
 mod matching;
 mod plain;
 
+pub use hand::at_hand;
 pub use hand::candidates;
 pub use hand::clauses;
 pub use hand::deeper;
 pub use hand::is_fact;
 pub use hand::open_clause;
+pub use hand::rule_number;
 pub use matching::meet;
 pub use plain::Parts;
 pub use plain::body_place;

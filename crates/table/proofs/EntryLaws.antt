@@ -21,23 +21,24 @@ use Rattle.room.specs.declared.Where.{Where}
 use Rattle.room.proofs.FrameLaws.{frames-alike, word-kept, copied-is, copy-kept, copy-length, frame-copied}
 use Rattle.room.proofs.FileLaws.{source-again, spot-alike}
 use Rattle.room.proofs.MoveLaws.{sets-before, sets-after, sets-at}
-use Rattle.table.specs.Slots.{tableWord, Slot, slotSpot, countOf, markOf, parametersOf, failedAt, provedAt, entryWords, entered, noted}
-use Rattle.table.specs.Good.{Truth, Right, Good}
+use Rattle.table.specs.Slots.{tableWord, Slot, slotSpot, countOf, markOf, parametersOf, failedAt, provedAt, choiceAt, numbersOf, numbersWord, wordsIn, entryWords, entered, Carried, Proved, Notes}
+use Rattle.table.specs.Good.{Truth, Choice, Right, Good}
 use Rattle.table.specs.Recall.{This, Fitting, TableOnly, Keeps}
-use Rattle.table.proofs.GoodLaws.{right-heights, good-changed, this-slot, this-true}
+use Rattle.table.proofs.GoodLaws.{words-alike, choice-same, right-heights, good-changed, this-slot, this-true, choice-this}
 
--- seven words stored one after the other
-pub seven-stored : (r r₀ r₁ r₂ r₃ r₄ r₅ r₆ : List ℕ) (i a b c d e f g : ℕ)
-    → r₀ ≡ set r (i + 0) a → r₁ ≡ set r₀ (i + 1) b → r₂ ≡ set r₁ (i + 2) c → r₃ ≡ set r₂ (i + 3) d → r₄ ≡ set r₃ (i + 4) e → r₅ ≡ set r₄ (i + 5) f → r₆ ≡ set r₅ (i + 6) g
-    → r₆ ≡ sets r i (a ∷ b ∷ c ∷ d ∷ e ∷ f ∷ g ∷ [])
-seven-stored r r₀ r₁ r₂ r₃ r₄ r₅ r₆ i a b c d e f g e₀ e₁ e₂ e₃ e₄ e₅ e₆ =
+-- eight words stored one after the other
+pub eight-stored : (r r₀ r₁ r₂ r₃ r₄ r₅ r₆ r₇ : List ℕ) (i a b c d e f g h : ℕ)
+    → r₀ ≡ set r (i + 0) a → r₁ ≡ set r₀ (i + 1) b → r₂ ≡ set r₁ (i + 2) c → r₃ ≡ set r₂ (i + 3) d → r₄ ≡ set r₃ (i + 4) e → r₅ ≡ set r₄ (i + 5) f → r₆ ≡ set r₅ (i + 6) g → r₇ ≡ set r₆ (i + 7) h
+    → r₇ ≡ sets r i (a ∷ b ∷ c ∷ d ∷ e ∷ f ∷ g ∷ h ∷ [])
+eight-stored r r₀ r₁ r₂ r₃ r₄ r₅ r₆ r₇ i a b c d e f g h e₀ e₁ e₂ e₃ e₄ e₅ e₆ e₇ =
     let q₀ : r₀ ≡ set r i a = e₀ ∙ ap (λ (n : ℕ). set r n a) {x = i + 0} {y = i} (omega arith) in
     let q₁ : r₁ ≡ set (set r i a) (suc i) b = e₁ ∙ ap₂ (λ (l : List ℕ) (n : ℕ). set l n b) q₀ (next 1 (suc i) (omega arith)) in
     let q₂ : r₂ ≡ set (set (set r i a) (suc i) b) (suc (suc i)) c = e₂ ∙ ap₂ (λ (l : List ℕ) (n : ℕ). set l n c) q₁ (next 2 (suc (suc i)) (omega arith)) in
     let q₃ : r₃ ≡ set (set (set (set r i a) (suc i) b) (suc (suc i)) c) (suc (suc (suc i))) d = e₃ ∙ ap₂ (λ (l : List ℕ) (n : ℕ). set l n d) q₂ (next 3 (suc (suc (suc i))) (omega arith)) in
     let q₄ : r₄ ≡ set (set (set (set (set r i a) (suc i) b) (suc (suc i)) c) (suc (suc (suc i))) d) (suc (suc (suc (suc i)))) e = e₄ ∙ ap₂ (λ (l : List ℕ) (n : ℕ). set l n e) q₃ (next 4 (suc (suc (suc (suc i)))) (omega arith)) in
     let q₅ : r₅ ≡ set (set (set (set (set (set r i a) (suc i) b) (suc (suc i)) c) (suc (suc (suc i))) d) (suc (suc (suc (suc i)))) e) (suc (suc (suc (suc (suc i))))) f = e₅ ∙ ap₂ (λ (l : List ℕ) (n : ℕ). set l n f) q₄ (next 5 (suc (suc (suc (suc (suc i))))) (omega arith)) in
-    e₆ ∙ ap₂ (λ (l : List ℕ) (n : ℕ). set l n g) q₅ (next 6 (suc (suc (suc (suc (suc (suc i)))))) (omega arith))
+    let q₆ : r₆ ≡ set (set (set (set (set (set (set r i a) (suc i) b) (suc (suc i)) c) (suc (suc (suc i))) d) (suc (suc (suc (suc i)))) e) (suc (suc (suc (suc (suc i))))) f) (suc (suc (suc (suc (suc (suc i)))))) g = e₆ ∙ ap₂ (λ (l : List ℕ) (n : ℕ). set l n g) q₅ (next 6 (suc (suc (suc (suc (suc (suc i)))))) (omega arith)) in
+    e₇ ∙ ap₂ (λ (l : List ℕ) (n : ℕ). set l n h) q₆ (next 7 (suc (suc (suc (suc (suc (suc (suc i))))))) (omega arith))
   where
     next : (k n : ℕ) → i + k ≡ n → i + k ≡ n
     next k n e = e
@@ -47,62 +48,76 @@ pub entered-is : (room r : List ℕ) (x : Spot) (supposed parameters at top : �
 unfolding entered
 entered-is room r x supposed parameters at top e t = ap₂ (λ (l : List ℕ) (i : ℕ). copied l (x .base) (x .count) i) e t
 
--- and a height noted
-pub noted-as : (room : List ℕ) (at height : ℕ) {r : List ℕ} {k : ℕ} {found : Bool} → found ≡ true → k ≡ held height → r ≡ set room (at + 6) k → r ≡ noted room at height found
-unfolding noted
-noted-as room at height e h q = q ∙ ap (set room (at + 6)) h ∙ rw e refl
+-- a height noted by the code's stores, with a choice and the numbers of its path
+pub proved-is : (room r₁ r₂ : List ℕ) (at height choice top n to : ℕ) {after : List ℕ} → at + 16 ≤ length room → r₁ ≡ set room (at + 6) (held height) → r₂ ≡ set r₁ (at + 7) (held choice) → n ≡ numbersOf r₂ at → (at + 16 ≤ length r₂ → to ≡ numbersWord r₂ at) → Carried r₂ after top n to → Proved room after at height choice top
+proved-is room r₁ r₂ at height choice top n to {after} l e₁ e₂ many first K =
+    record {
+      long = K .long ∙ long;
+      proved = K .others (at + 6) (λ a b. omega (arith, many, to-is)) ∙ (other₂ (at + 6) (λ z. omega arith) ∙ (ap (λ (r : List ℕ). getD r (at + 6) 0) e₁ ∙ getD-set-same room (at + 6) (held height) 0 (omega arith)));
+      clause = K .others (at + 7) (λ a b. omega (arith, many, to-is)) ∙ (ap (λ (r : List ℕ). getD r (at + 7) 0) e₂ ∙ getD-set-same r₁ (at + 7) (held choice) 0 (omega (arith, long₁)));
+      others = λ i p q z. K .others i (λ a b. z (omega (arith, to-is, count)) (omega (arith, many, to-is, count))) ∙ both i p q;
+      numbers = λ b k m.
+          ap (λ (j : ℕ). getD after (j + k) 0) {x = numbersWord room at} {y = to} (omega (arith, to-is, count))
+          ∙ (K .there (omega (arith, many, to-is, long)) (λ i j a c z. omega (arith, many, to-is)) k (omega (arith, many, count)) ∙ both (top + k) (λ z. omega arith) (λ z. omega arith));
+    }
+  where
+    long₁ : length r₁ ≡ length room
+    long₁ = ap length e₁ ∙ length-set room (at + 6) (held height)
 
-pub noted-not : (room : List ℕ) (at height : ℕ) {r : List ℕ} {k : ℕ} {found : Bool} → found ≡ false → k ≡ held height → r ≡ set room (at + 5) k → r ≡ noted room at height found
-unfolding noted
-noted-not room at height e h q = q ∙ ap (set room (at + 5)) h ∙ rw e refl
+    long : length r₂ ≡ length room
+    long = ap length e₂ ∙ (length-set r₁ (at + 7) (held choice) ∙ long₁)
 
-module _ (room : List ℕ) (at height : ℕ) where
-  noted-other : (found : Bool) (i : ℕ) → (at + 5 ≡ i → ⊥) → (at + 6 ≡ i → ⊥) → getD (noted room at height found) i 0 ≡ getD room i 0
-  unfolding noted
-  noted-other true i p q = getD-set-other room (at + 6) i (held height) 0 (λ e. q (sym e))
-  noted-other false i p q = getD-set-other room (at + 5) i (held height) 0 (λ e. p (sym e))
+    other₂ : (i : ℕ) → (i ≡ at + 7 → ⊥) → getD r₂ i 0 ≡ getD r₁ i 0
+    other₂ i q = ap (λ (r : List ℕ). getD r i 0) e₂ ∙ getD-set-other r₁ (at + 7) i (held choice) 0 q
 
-  noted-length : (found : Bool) → length (noted room at height found) ≡ length room
-  unfolding noted
-  noted-length true = length-set room (at + 6) (held height)
-  noted-length false = length-set room (at + 5) (held height)
+    both : (i : ℕ) → (i ≡ at + 6 → ⊥) → (i ≡ at + 7 → ⊥) → getD r₂ i 0 ≡ getD room i 0
+    both i p q = other₂ i q ∙ (ap (λ (r : List ℕ). getD r i 0) e₁ ∙ getD-set-other room (at + 6) i (held height) 0 p)
+
+    count : countOf r₂ at ≡ countOf room at
+    count = both (at + 2) (λ z. omega arith) (λ z. omega arith)
+
+    to-is : to ≡ numbersWord r₂ at
+    to-is = first (omega (arith, long))
+
+module _ {room after : List ℕ} {at height choice top : ℕ} where
+  -- nothing else is written
+  notes-other : (found : Bool) → Notes room after at height found choice top → (i : ℕ) → (at + 5 ≤ i → i < at + 16 → ⊥) → getD after i 0 ≡ getD room i 0
+  notes-other found (Notes.proved y N) i z = N .others i (λ e. z (omega arith) (omega arith)) (λ e. z (omega arith) (omega arith)) (λ a b. z (omega arith) b)
+  notes-other found (Notes.failed n N) i z = ap (λ (r : List ℕ). getD r i 0) N ∙ getD-set-other room (at + 5) i (held height) 0 (λ e. z (omega arith) (omega arith))
+
+  notes-length : (found : Bool) → Notes room after at height found choice top → length after ≡ length room
+  notes-length found (Notes.proved y N) = N .long
+  notes-length found (Notes.failed n N) = ap length N ∙ length-set room (at + 5) (held height)
+
+  notes-only : (found : Bool) → tableWord ≤ at → Notes room after at height found choice top → TableOnly room after
+  notes-only found l N = record { long = notes-length found N; below = λ i b. notes-other found N i (λ e d. omega arith) }
 
   -- an entry stays right when what is true is noted of it
-  right-noted : {f : Files} {us : List Term} {T : Truth} {s : ℕ} (found : Bool) (R : Right f us T s room at) → at + 16 ≤ length room → height ≤ 4294967295
-      → T s (parametersOf room at) height (replacedAtom us (bindingsAt room (slotSpot room at)) (R .atom)) ≡ found → Right f us T s (noted room at height found) at
-  unfolding noted
-  right-noted {us = us} {T = T} {s = s} true R l small q =
+  right-noted : {f : Files} {us : List Term} {T : Truth} {C : Choice} {s : ℕ} (found : Bool) (R : Right f us T C s room at) → Notes room after at height found choice top → at + 16 ≤ length room → height ≤ 4294967295 → choice ≤ 4294967295 → top + 8 ≤ at
+      → T s (parametersOf room at) height (replacedAtom us (bindingsAt room (slotSpot room at)) (R .atom)) ≡ found
+      → (found ≡ true → 0 < choice → C s (parametersOf room at) height (replacedAtom us (bindingsAt room (slotSpot room at)) (R .atom)) (choice - 1) (wordsIn room top (numbersOf room at)))
+      → Right f us T C s after at
+  right-noted {us = us} {T = T} {C = C} {s = s} found R (Notes.proved y N) l small small′ low q by =
       let x = replacedAtom us (bindingsAt room (slotSpot room at)) (R .atom) in
       let p = parametersOf room at in
-      let new : provedAt (noted room at height true) at ≡ height = getD-set-same room (at + 6) (held height) 0 (omega arith) ∙ omega arith in
-      let old : failedAt (noted room at height true) at ≡ failedAt room at = getD-set-other room (at + 6) (at + 5) (held height) 0 (λ e. omega arith) in
-      right-heights R (λ k b n m. noted-other true (at + k) (λ e. n (omega arith)) (λ e. m (omega arith)))
+      let new : provedAt after at ≡ height = N .proved ∙ omega arith in
+      let one : choiceAt after at ≡ choice = N .clause ∙ omega arith in
+      let old : failedAt after at ≡ failedAt room at = N .others (at + 5) (λ e. omega arith) (λ e. omega arith) (λ a b. omega arith) in
+      right-heights R (λ k b n. N .others (at + k) (λ e. n (omega arith) (omega arith)) (λ e. n (omega arith) (omega arith)) (λ a c. omega (arith, R .few)))
       (λ h. ap (λ (y : ℕ). T s p y x) old ∙ R .failed (subst (λ (y : ℕ). 0 < y) old h))
-      (λ h. ap (λ (y : ℕ). T s p y x) new ∙ q)
-  right-noted {us = us} {T = T} {s = s} false R l small q =
+      (λ h. ap (λ (y : ℕ). T s p y x) new ∙ (q ∙ y))
+      (λ h. choice-same C s p x (sym new) (ap (λ (k : ℕ). k - 1) (sym one)) (sym (words-alike room after top (numbersWord room at) (numbersOf room at) (N .numbers low))) (by y (omega (arith, one))))
+  right-noted {us = us} {T = T} {C = C} {s = s} found R (Notes.failed y N) l small small′ low q by =
       let x = replacedAtom us (bindingsAt room (slotSpot room at)) (R .atom) in
       let p = parametersOf room at in
-      let new : failedAt (noted room at height false) at ≡ height = getD-set-same room (at + 5) (held height) 0 (omega arith) ∙ omega arith in
-      let old : provedAt (noted room at height false) at ≡ provedAt room at = getD-set-other room (at + 5) (at + 6) (held height) 0 (λ e. omega arith) in
-      right-heights R (λ k b n m. noted-other false (at + k) (λ e. n (omega arith)) (λ e. m (omega arith)))
-      (λ h. ap (λ (y : ℕ). T s p y x) new ∙ q)
+      let other : (i : ℕ) → (i ≡ at + 5 → ⊥) → getD after i 0 ≡ getD room i 0 = λ i n. ap (λ (r : List ℕ). getD r i 0) N ∙ getD-set-other room (at + 5) i (held height) 0 n in
+      let new : failedAt after at ≡ height = ap (λ (r : List ℕ). getD r (at + 5) 0) N ∙ (getD-set-same room (at + 5) (held height) 0 (omega arith) ∙ omega arith) in
+      let old : provedAt after at ≡ provedAt room at = other (at + 6) (λ e. omega arith) in
+      let one : choiceAt after at ≡ choiceAt room at = other (at + 7) (λ e. omega arith) in
+      right-heights R (λ k b n. other (at + k) (λ e. n (omega arith) (omega arith)))
+      (λ h. ap (λ (y : ℕ). T s p y x) new ∙ (q ∙ y))
       (λ h. ap (λ (y : ℕ). T s p y x) old ∙ R .proved (subst (λ (y : ℕ). 0 < y) old h))
-
-  pub noted-only : (found : Bool) → tableWord ≤ at → TableOnly room (noted room at height found)
-  noted-only found l = record { long = noted-length found; below = λ i b. noted-other found i (λ e. omega arith) (λ e. omega arith) }
-
--- an entry of the same atom gets the height
-pub keeps-this : (f : Files) (room : List ℕ) (w : Where) (height at : ℕ) (found : Bool) → This f room w at → Fitting (w .goal) (w .supposed) (w .parameters) height → Keeps f room (noted room at height found) w height at found
-keeps-this f room w height at found t fit us T m a step few g C A q =
-    let R = g at (w .supposed) (this-slot t step) (t .supposed) few in
-    let mark : markOf (noted room at height found) at ≡ w .supposed + 1 = noted-other room at height found (at + 3) (λ e. omega arith) (λ e. omega arith) ∙ t .supposed in
-    let after = right-noted room at height found R (t .inside) (fit .high) (this-true t a R C A height ∙ q) in
-    good-changed at step g (noted-length room at height found) (λ i apart. noted-other room at height found i (λ e. apart (omega arith) (omega arith)) (λ e. apart (omega arith) (omega arith)))
-    (λ s h l. subst (λ (n : ℕ). Right f us T n (noted room at height found) at) (omega arith) after)
-
--- nothing is kept
-pub keeps-none : (f : Files) (room : List ℕ) (w : Where) (height at : ℕ) (found : Bool) → Keeps f room room w height at found
-keeps-none f room w height at found us T m a step few g C A q = g
+      (λ h. choice-same C s p x (sym old) (ap (λ (k : ℕ). k - 1) (sym one)) (sym (words-alike room after (numbersWord room at) (numbersWord room at) (numbersOf room at) (λ k m. other (numbersWord room at + k) (λ e. omega arith)))) (R .chosen (subst (λ (y : ℕ). 0 < y) one h)))
 
 pub only-none : (room : List ℕ) → TableOnly room room
 only-none room = record { long = refl; below = λ i l. refl }
@@ -134,7 +149,7 @@ module _ (room : List ℕ) (w : Where) (height at : ℕ) (fit : Fitting (w .goal
   entered-low : (i : ℕ) → i < at + 8 → getD (entered room (w .goal) (w .supposed) (w .parameters) at) i 0 ≡ getD plain i 0
   entered-low i l = ap (λ (r : List ℕ). getD r i 0) is-copied ∙ word-kept (copied plain (w .goal .base) n (at + 8)) plain (at + 8) i (copy-kept plain (w .goal .base) n (at + 8) frame-below frame-inside) l
 
-  entered-word : (k : ℕ) → k < 7 → getD (entered room (w .goal) (w .supposed) (w .parameters) at) (at + k) 0 ≡ getD (entryWords (w .goal) (w .supposed) (w .parameters)) k 0
+  entered-word : (k : ℕ) → k < 8 → getD (entered room (w .goal) (w .supposed) (w .parameters) at) (at + k) 0 ≡ getD (entryWords (w .goal) (w .supposed) (w .parameters)) k 0
   entered-word k l = entered-low (at + k) (omega arith) ∙ sets-at (entryWords (w .goal) (w .supposed) (w .parameters)) room at k (omega arith) (omega arith)
 
   -- above them those of the room
@@ -180,38 +195,67 @@ module _ (room : List ℕ) (w : Where) (height at : ℕ) (fit : Fitting (w .goal
   entered-parameters = entered-word 4 (omega arith) ∙ omega (arith, fit .opened)
 
   -- an atom entered, of which nothing is known
-  entered-right : (f : Files) (us : List Term) (T : Truth) (a : Atom) → AtomAt (f .rules) (f .goal) (f .terms) (w .goal) a → Right f us T (w .supposed) (entered room (w .goal) (w .supposed) (w .parameters) at) at
-  entered-right f us T a A = record {
+  entered-right : (f : Files) (us : List Term) (T : Truth) (C : Choice) (a : Atom) → AtomAt (f .rules) (f .goal) (f .terms) (w .goal) a → Right f us T C (w .supposed) (entered room (w .goal) (w .supposed) (w .parameters) at) at
+  entered-right f us T C a A = record {
     few = omega (arith, entered-count, fit .few);
     atom = a;
     here = subst (λ (y : Spot). AtomAt (f .rules) (f .goal) (f .terms) y a) (sym entered-spot) (record { stands = A .stands; shallow = A .shallow; few = A .few; ok = A .ok });
     failed = λ h. let z = entered-word 5 (omega arith) in absurd (omega arith);
     proved = λ h. let z = entered-word 6 (omega arith) in absurd (omega arith);
+    chosen = λ h. let z = entered-word 7 (omega arith) in absurd (omega arith);
   }
 
-  pub entered-only : (found : Bool) → TableOnly room (noted (entered room (w .goal) (w .supposed) (w .parameters) at) at height found)
-  entered-only found =
-      let o = noted-only (entered room (w .goal) (w .supposed) (w .parameters) at) at height found low in
+  entered-apart : (i : ℕ) → (at ≤ i → i < at + 16 → ⊥) → getD (entered room (w .goal) (w .supposed) (w .parameters) at) i 0 ≡ getD room i 0
+  entered-apart i z = go (ltb i at) refl
+    where
+      far : (b : Bool) → ltb i (at + 16) ≡ b → at ≤ i → getD (entered room (w .goal) (w .supposed) (w .parameters) at) i 0 ≡ getD room i 0
+      far true e l = absurd (z l (ltb-true i (at + 16) e))
+      far false e l = entered-high i (ltb-false i (at + 16) e)
+
+      go : (b : Bool) → ltb i at ≡ b → getD (entered room (w .goal) (w .supposed) (w .parameters) at) i 0 ≡ getD room i 0
+      go true e = entered-below i (ltb-true i at e)
+      go false e = let l = ltb-false i at e in far (ltb i (at + 16)) refl l
+
+  new-only : {after : List ℕ} {choice top : ℕ} (found : Bool) → Notes (entered room (w .goal) (w .supposed) (w .parameters) at) after at height found choice top → TableOnly room after
+  new-only found N =
+      let o = notes-only found low N in
       record { long = o .long ∙ entered-length; below = λ i l. o .below i l ∙ entered-below i (omega arith) }
 
   -- a new entry, with what is true of it
-  pub keeps-new : (f : Files) (found : Bool) → Keeps f room (noted (entered room (w .goal) (w .supposed) (w .parameters) at) at height found) w height at found
+  new-good : {f : Files} {us : List Term} {T : Truth} {C : Choice} {m : ℕ} {after : List ℕ} {choice : ℕ} (found : Bool) (a : Atom) → at % 16 ≡ 0 → w .supposed ≤ m → Good f us T C m room → AtomAt (f .rules) (f .goal) (f .terms) (w .goal) a
+      → Notes (entered room (w .goal) (w .supposed) (w .parameters) at) after at height found choice (w .top) → choice ≤ 4294967295 → w .top + 8 ≤ tableWord
+      → T (w .supposed) (w .parameters) height (replacedAtom us (bindingsAt room (w .goal)) a) ≡ found
+      → (found ≡ true → 0 < choice → (n : ℕ) → C (w .supposed) (w .parameters) height (replacedAtom us (bindingsAt room (w .goal)) a) (choice - 1) (wordsIn room (w .top) n))
+      → Good f us T C m after
   unfolding entered-right
-  keeps-new f found us T m a step few g C A q =
-      let R = entered-right f us T a A in
+  new-good {f} {us} {T} {C} {m} {after} {choice} found a step few g A N small top q by =
+      let R = entered-right f us T C a A in
       let room′ = entered room (w .goal) (w .supposed) (w .parameters) at in
-      let mark : markOf (noted room′ at height found) at ≡ w .supposed + 1 = noted-other room′ at height found (at + 3) (λ e. omega arith) (λ e. omega arith) ∙ entered-mark in
+      let mark : markOf after at ≡ w .supposed + 1 = notes-other found N (at + 3) (λ e d. omega arith) ∙ entered-mark in
       let true′ = ap (λ (p : ℕ). T (w .supposed) p height (replacedAtom us (bindingsAt room′ (slotSpot room′ at)) a)) entered-parameters ∙ ap (λ (bs : Bindings). T (w .supposed) (w .parameters) height (replacedAtom us bs a)) entered-bindings ∙ q in
-      let after = right-noted room′ at height found R (omega (arith, entered-length)) (fit .high) true′ in
-      good-changed at step g (noted-length room′ at height found ∙ entered-length) apart (λ s h l. subst (λ (k : ℕ). Right f us T k (noted room′ at height found) at) (omega arith) after)
-    where
-      apart : (i : ℕ) → (at ≤ i → i < at + 16 → ⊥) → getD (noted (entered room (w .goal) (w .supposed) (w .parameters) at) at height found) i 0 ≡ getD room i 0
-      apart i z = noted-other (entered room (w .goal) (w .supposed) (w .parameters) at) at height found i (λ e. z (omega arith) (omega arith)) (λ e. z (omega arith) (omega arith)) ∙ go (ltb i at) refl
-        where
-          far : (b : Bool) → ltb i (at + 16) ≡ b → at ≤ i → getD (entered room (w .goal) (w .supposed) (w .parameters) at) i 0 ≡ getD room i 0
-          far true e l = absurd (z l (ltb-true i (at + 16) e))
-          far false e l = entered-high i (ltb-false i (at + 16) e)
+      let by′ : (n : ℕ) → n ≤ 8 → found ≡ true → 0 < choice → C (w .supposed) (parametersOf room′ at) height (replacedAtom us (bindingsAt room′ (slotSpot room′ at)) a) (choice - 1) (wordsIn room′ (w .top) n) = λ n b y z.
+      subst (λ (p : ℕ). C (w .supposed) p height (replacedAtom us (bindingsAt room′ (slotSpot room′ at)) a) (choice - 1) (wordsIn room′ (w .top) n)) (sym entered-parameters)
+      (subst (λ (bs : Bindings). C (w .supposed) (w .parameters) height (replacedAtom us bs a) (choice - 1) (wordsIn room′ (w .top) n)) (sym entered-bindings)
+      (subst (λ (ns : List ℕ). C (w .supposed) (w .parameters) height (replacedAtom us (bindingsAt room (w .goal)) a) (choice - 1) ns) (sym (words-alike room room′ (w .top) (w .top) n (λ k l. entered-below (w .top + k) (omega arith)))) (by y z n))) in
+      let right = right-noted found R N (omega (arith, entered-length)) (fit .high) small (omega arith) true′ (by′ (numbersOf room′ at) (omega arith)) in
+      good-changed at step g (notes-length found N ∙ entered-length) (λ i z. notes-other found N i (λ a b. z (omega arith) b) ∙ entered-apart i z) (λ s h l. subst (λ (k : ℕ). Right f us T C k after at) (omega arith) right)
 
-          go : (b : Bool) → ltb i at ≡ b → getD (entered room (w .goal) (w .supposed) (w .parameters) at) i 0 ≡ getD room i 0
-          go true e = entered-below i (ltb-true i at e)
-          go false e = let l = ltb-false i at e in far (ltb i (at + 16)) refl l
+module _ {f : Files} {before after : List ℕ} {w : Where} {height at choice : ℕ} {found : Bool} where
+  pub keeps-only : tableWord ≤ at → Keeps f before after w height at found choice → TableOnly before after
+  keeps-only l (Keeps.nothing e) = subst (TableOnly before) (sym e) (only-none before)
+  keeps-only l (Keeps.again t fit N) = notes-only found l N
+  keeps-only l (Keeps.new m i fit N) = new-only before w height at fit m i found N
+
+  -- what is kept, where it is true: the table is right afterwards if it was before
+  pub keeps-good : {us : List Term} {T : Truth} {C : Choice} {m : ℕ} (a : Atom) → Keeps f before after w height at found choice → at % 16 ≡ 0 → w .supposed ≤ m → Good f us T C m before → CandidatesIn before (f .terms) us → AtomAt (f .rules) (f .goal) (f .terms) (w .goal) a → choice ≤ 4294967295 → w .top + 8 ≤ tableWord
+      → T (w .supposed) (w .parameters) height (replacedAtom us (bindingsAt before (w .goal)) a) ≡ found
+      → (found ≡ true → 0 < choice → (n : ℕ) → C (w .supposed) (w .parameters) height (replacedAtom us (bindingsAt before (w .goal)) a) (choice - 1) (wordsIn before (w .top) n))
+      → Good f us T C m after
+  keeps-good {us} {T} {C} {m} a (Keeps.nothing e) step few g us-in A small top q by = subst (Good f us T C m) (sym e) g
+  keeps-good {us} {T} {C} {m} a (Keeps.again t fit N) step few g us-in A small top q by =
+      let R = g at (w .supposed) (this-slot t step) (t .supposed) few in
+      let mark : markOf after at ≡ w .supposed + 1 = notes-other found N (at + 3) (λ e d. omega arith) ∙ t .supposed in
+      let right = right-noted found R N (t .inside) (fit .high) small (omega (arith, t .first)) (this-true t a R us-in A height ∙ q) (λ y z. choice-this t a R us-in A (by y z (numbersOf before at))) in
+      good-changed at step g (notes-length found N) (λ i apart. notes-other found N i (λ b c. apart (omega arith) c))
+      (λ s h l. subst (λ (n : ℕ). Right f us T C n after at) (omega arith) right)
+  keeps-good {us} {T} {C} {m} a (Keeps.new l i fit N) step few g us-in A small top q by = new-good before w height at fit l i found a step few g A N small top q by

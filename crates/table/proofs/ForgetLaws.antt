@@ -12,7 +12,7 @@ use Rattle.basics.specs.Choice.{choose}
 use Rattle.harrop.specs.Formula.{Term, Atom}
 use Rattle.room.specs.Where.{Files}
 use Rattle.table.specs.Slots.{tableWord, Slot, markOf, emptied}
-use Rattle.table.specs.Good.{Truth, Right, Good}
+use Rattle.table.specs.Good.{Truth, Choice, Right, Good}
 use Rattle.table.specs.Recall.{TableOnly, Forgets, Empty}
 use Rattle.table.proofs.GoodLaws.{right-alike, right-truth}
 
@@ -110,25 +110,33 @@ forgotten-next before room supposed at S F = go (eqb (markOf room at) (supposed 
 
 -- all slots
 pub forgotten-all : (before after : List ℕ) (supposed n : ℕ) → Forgotten before after supposed n → length after < n + 16 → Forgets before after supposed
-forgotten-all before after supposed n F end f us T T′ m e agree g at s S h l =
-    let long = F .long in
-    let Z : Slot (length before) at = subst (λ (k : ℕ). Slot k at) long S in
-    let i = S .inside in
-    let other : s ≡ m + 1 → ⊥ = λ q. F .marks at Z (omega arith) (omega arith) in
-    let few : s ≤ m = omega arith in
-    let mark = marked (F .each (at + 3)) in
-    right-truth (right-alike (g at s Z (sym mark ∙ h) few) (λ k b. word k b mark (F .each (at + k)))) (λ p q a. agree s p q a few)
+forgotten-all before after supposed n F end =
+    record {
+      long = F .long;
+      gone = λ at S. let i = S .inside in F .marks at S (omega (arith, F .long));
+      rest = λ at s S h k b. word at s S h k b (marked at s S h (F .each (at + 3))) (F .each (at + k));
+    }
   where
-    marked : Emptied before after (at + 3) → markOf after at ≡ markOf before at
-    marked (Emptied.same q) = q
-    marked (Emptied.gone b c q) = absurd (omega arith)
+    marked : (at s : ℕ) → Slot (length before) at → markOf after at ≡ s + 1 → Emptied before after (at + 3) → markOf after at ≡ markOf before at
+    marked at s S h (Emptied.same q) = q
+    marked at s S h (Emptied.gone b c q) = absurd (omega arith)
 
-    word : (k : ℕ) → k < 16 → markOf after at ≡ markOf before at → Emptied before after (at + k) → getD after (at + k) 0 ≡ getD before (at + k) 0
-    word k b mark (Emptied.same q) = q
-    word k b mark (Emptied.gone c d q) =
+    word : (at s : ℕ) → Slot (length before) at → markOf after at ≡ s + 1 → (k : ℕ) → k < 16 → markOf after at ≡ markOf before at → Emptied before after (at + k) → getD after (at + k) 0 ≡ getD before (at + k) 0
+    word at s S h k b mark (Emptied.same q) = q
+    word at s S h k b mark (Emptied.gone c d q) =
         let t = S .step in
         let three : k ≡ 3 = omega arith in
         ap (λ (j : ℕ). getD after (at + j) 0) three ∙ mark ∙ ap (λ (j : ℕ). getD before (at + j) 0) (sym three)
+
+-- what is right up to m supposed clauses is right up to one more, whatever is true under that one
+pub forgets-good : {f : Files} {us : List Term} {T T′ : Truth} {C C′ : Choice} {before after : List ℕ} {supposed : ℕ} (m : ℕ) → Forgets before after supposed → supposed ≡ m + 1
+    → ((s p h : ℕ) (a : Atom) → s ≤ m → T′ s p h a ≡ T s p h a) → ((s p h : ℕ) (a : Atom) (k : ℕ) (ns : List ℕ) → s ≤ m → C s p h a k ns → C′ s p h a k ns) → Good f us T C m before → Good f us T′ C′ (m + 1) after
+forgets-good m F e agree agree′ g at s S h l =
+    let Z = subst (λ (k : ℕ). Slot k at) (F .long) S in
+    let other : s ≡ m + 1 → ⊥ = λ q. F .gone at Z (omega arith) in
+    let few : s ≤ m = omega arith in
+    let same = F .rest at s Z h in
+    right-truth (right-alike (g at s Z (sym (same 3 (omega arith)) ∙ h) few) same) (λ p q a. agree s p q a few) (λ p q a k ns. agree′ s p q a k ns few)
 
 pub bare-all : (before after : List ℕ) (n : ℕ) → Bare before after n → length after < n + 16 → Empty after
 bare-all before after n B end at S = let i = S .inside in B .marks at (subst (λ (k : ℕ). Slot k at) (B .long) S) (omega arith)

@@ -4,18 +4,13 @@ use mathlib.Core.Path.{_≡_}
 use mathlib.Core.Bool.{Bool, true, false}
 use mathlib.Core.List.{List}
 use lib.ListN.{length, getD}
-use Rattle.harrop.specs.Formula.{Term, Atom}
-use Rattle.harrop.specs.Bindings.{replacedAtom}
-use Rattle.room.specs.Spot.{bindingsAt}
-use Rattle.room.specs.Table.{CandidatesIn}
-use Rattle.equal.specs.Term.{AtomAt, SameAtoms}
+use Rattle.equal.specs.Term.{SameAtoms}
 use Rattle.room.specs.Where.{Files}
 use Rattle.room.specs.declared.Spot.{Spot}
 use Rattle.room.specs.declared.Where.{Where}
 use Rattle.table.specs.declared.Recalled.{Recalled}
 use Rattle.table.specs.declared.Recalled.the-variants.{Unknown, No, Yes}
-use Rattle.table.specs.Slots.{tableWord, Slot, slotSpot, markOf, parametersOf}
-use Rattle.table.specs.Good.{Truth, Rises, Good}
+use Rattle.table.specs.Slots.{tableWord, Slot, slotSpot, markOf, parametersOf, failedAt, provedAt, choiceAt, entered, Notes}
 
 -- a slot of the table has the atom of a place, with its supposed clauses and parameters
 pub record This (f : Files) (room : List ℕ) (w : Where) (at : ℕ) : Type 0 where
@@ -34,10 +29,15 @@ Says b Unknown = Unit {0}
 Says b No = b ≡ false
 Says b Yes = b ≡ true
 
+-- what a slot says of the atom of a place, if it has it: that it failed at this height or a greater, or that it is proved at this height or a smaller
 abbrev pub Recalls : Files → List ℕ → Where → ℕ → ℕ → Recalled → Type 0
-Recalls f room w height at r =
-    (us : List Term) (T : Truth) (a : Atom) → at % 16 ≡ 0 → Rises T → Good f us T (w .supposed) room → CandidatesIn room (f .terms) us → AtomAt (f .rules) (f .goal) (f .terms) (w .goal) a
-    → Says (T (w .supposed) (w .parameters) height (replacedAtom us (bindingsAt room (w .goal)) a)) r
+Recalls f room w height at Unknown = Unit {0}
+Recalls f room w height at No = This f room w at × (0 < height) × (height ≤ failedAt room at)
+Recalls f room w height at Yes = This f room w at × (0 < provedAt room at) × (provedAt room at ≤ height)
+
+-- and by which clause at exactly this height, one more than its number
+abbrev pub Chose : Files → List ℕ → Where → ℕ → ℕ → ℕ → Type 0
+Chose f room w height at r = 0 < r → This f room w at × (provedAt room at ≡ height) × (choiceAt room at ≡ r)
 
 -- what a slot can hold: an atom with at most 8 bindings, which stand below the table, and numbers that fit a word
 pub record Fitting (x : Spot) (supposed parameters height : ℕ) : Type 0 where
@@ -56,16 +56,17 @@ pub record TableOnly (before after : List ℕ) : Type 0 where
   pub long : length after ≡ length before
   pub below : (i : ℕ) → i < tableWord → getD after i 0 ≡ getD before i 0
 
--- what is kept: where it is true, the table is right afterwards if it was before
-abbrev pub Keeps : Files → List ℕ → List ℕ → Where → ℕ → ℕ → Bool → Type 0
-Keeps f before after w height at found =
-    (us : List Term) (T : Truth) (m : ℕ) (a : Atom) → at % 16 ≡ 0 → w .supposed ≤ m → Good f us T m before → CandidatesIn before (f .terms) us → AtomAt (f .rules) (f .goal) (f .terms) (w .goal) a
-    → T (w .supposed) (w .parameters) height (replacedAtom us (bindingsAt before (w .goal)) a) ≡ found → Good f us T m after
+-- what is kept of the atom of a place: nothing; or an entry of the same atom stays and what is found is noted there, or the atom is entered first and what the slot held is gone
+pub data Keeps (f : Files) (before after : List ℕ) (w : Where) (height at : ℕ) (found : Bool) (choice : ℕ) : Type 0 where
+  nothing : after ≡ before → Keeps f before after w height at found choice
+  again : This f before w at → Fitting (w .goal) (w .supposed) (w .parameters) height → Notes before after at height found choice (w .top) → Keeps f before after w height at found choice
+  new : tableWord ≤ at → at + 16 ≤ length before → Fitting (w .goal) (w .supposed) (w .parameters) height → Notes (entered before (w .goal) (w .supposed) (w .parameters) at) after at height found choice (w .top) → Keeps f before after w height at found choice
 
--- forgotten: what is right up to m supposed clauses is right up to one more, whatever is true under that one
-abbrev pub Forgets : List ℕ → List ℕ → ℕ → Type 0
-Forgets before after supposed =
-    (f : Files) (us : List Term) (T T′ : Truth) (m : ℕ) → supposed ≡ m + 1 → ((s p h : ℕ) (a : Atom) → s ≤ m → T′ s p h a ≡ T s p h a) → Good f us T m before → Good f us T′ (m + 1) after
+-- forgotten: no slot is of so many supposed clauses any more, and one that holds something still is as it was
+pub record Forgets (before after : List ℕ) (supposed : ℕ) : Type 0 where
+  pub long : length after ≡ length before
+  pub gone : (at : ℕ) → Slot (length before) at → markOf after at ≡ supposed + 1 → ⊥
+  pub rest : (at s : ℕ) → Slot (length before) at → markOf after at ≡ s + 1 → (k : ℕ) → k < 16 → getD after (at + k) 0 ≡ getD before (at + k) 0
 
 -- no slot holds anything: such a table is right, whatever is true
 abbrev pub Empty : List ℕ → Type 0

@@ -7,7 +7,7 @@ use crate::words::word;
 use equal::same_atoms;
 use room::Where;
 ghost use Rattle.room.specs.Where.{filesOf};
-ghost use Rattle.table.specs.Recall.{IsThis, Recalls};
+ghost use Rattle.table.specs.Recall.{IsThis, Recalls, Chose};
 
 // Whether a slot has the atom at a place. The atoms are compared in full.
 pub(crate) fn is_this<'a>(
@@ -62,4 +62,29 @@ pub fn recall<'a>(
         return Recalled::Yes;
     }
     Recalled::Unknown
+}
+
+// The clause that serves the atom first, one more than its number; 0 where the slot does not say it. It is believed at the height at which it was found, and at no other.
+pub fn chosen<'a>(
+    rules: &'a [u8],
+    goal: &'a [u8],
+    terms: &'a [u8],
+    room: &[u32],
+    w: Where,
+    height: usize,
+    at: usize,
+) -> usize
+    ensures { λ r. ⌜ Chose (filesOf (now (rules .entry)) (now (goal .entry)) (now (terms .entry))) (now (room .entry)) w height at r ⌝ }
+{
+    let k = word(room, at, 7) as usize;
+    if k == 0 {
+        return 0;
+    }
+    if word(room, at, 6) as usize != height {
+        return 0;
+    }
+    if !is_this(rules, goal, terms, room, w, at) {
+        return 0;
+    }
+    k
 }

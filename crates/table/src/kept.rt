@@ -1,5 +1,8 @@
 // Entries kept in the table and forgotten. Nothing below the table is written.
 use crate::asked::is_this;
+use crate::path::carry;
+use crate::path::numbers;
+use crate::path::numbers_word;
 use crate::slot::inside;
 use crate::words::hold;
 use crate::words::marks;
@@ -14,7 +17,7 @@ ghost use mathlib.Core.Path.{_≡_};
 ghost use Prim.Native.Nat.{_+_, _≤_};
 ghost use lib.ListN.{length};
 ghost use Rattle.room.specs.Where.{filesOf};
-ghost use Rattle.table.specs.Slots.{entered, noted, emptied};
+ghost use Rattle.table.specs.Slots.{entered, Notes, emptied};
 ghost use Rattle.table.specs.Recall.{FitsSlot, TableOnly, Keeps, Forgets, Empty};
 
 // Whether an atom's numbers fit a slot's words, and its bindings stand below the table.
@@ -51,21 +54,26 @@ fn enter(room: &mut [u32], x: Spot, supposed: usize, parameters: usize, at: usiz
     put(room, at, 4, hold(parameters));
     put(room, at, 5, 0);
     put(room, at, 6, 0);
+    put(room, at, 7, 0);
     copy(room, x.base, x.count, plus(at, 8));
 }
 
-// The height noted at which a slot's atom is proved, or at which it failed.
-fn note(room: &mut [u32], at: usize, height: usize, found: bool)
-    ensures { λ _. ⌜ now (room .exit) ≡ noted (now (room .entry)) at height found ⌝ }
+// The height noted at which a slot's atom is proved, with the clause that serves it first and the numbers of the path from word `top` on; or at which it failed.
+fn note(room: &mut [u32], at: usize, height: usize, found: bool, choice: usize, top: usize)
+    ensures { λ _. ⌜ (at + 16 ≤ length (now (room .entry)) → Notes (now (room .entry)) (now (room .exit)) at height found choice top) ⌝ }
 {
     if found {
         put(room, at, 6, hold(height));
+        put(room, at, 7, hold(choice));
+        let n = numbers(room, at);
+        let to = numbers_word(room, at);
+        carry(room, top, n, to);
         return;
     }
     put(room, at, 5, hold(height));
 }
 
-// Kept of the atom at a place: that it is proved within a height, or that it failed. An entry of the same atom stays and gets the height; any other makes room.
+// Kept of the atom at a place: that it is proved within a height, by which clause (one more than its number, or 0) and with the numbers on top of the stack; or that it failed. An entry of the same atom stays and gets the height; any other makes room.
 pub fn keep<'a>(
     rules: &'a [u8],
     goal: &'a [u8],
@@ -75,9 +83,10 @@ pub fn keep<'a>(
     height: usize,
     at: usize,
     found: bool,
+    choice: usize,
 )
     ensures only { λ _. ⌜ TableOnly (now (room .entry)) (now (room .exit)) ⌝ }
-    ensures kept { λ _. ⌜ Keeps (filesOf (now (rules .entry)) (now (goal .entry)) (now (terms .entry))) (now (room .entry)) (now (room .exit)) w height at found ⌝ }
+    ensures kept { λ _. ⌜ Keeps (filesOf (now (rules .entry)) (now (goal .entry)) (now (terms .entry))) (now (room .entry)) (now (room .exit)) w height at found choice ⌝ }
 {
     if !inside(room.len(), at) {
         return;
@@ -86,11 +95,11 @@ pub fn keep<'a>(
         return;
     }
     if is_this(rules, goal, terms, room, w, at) {
-        note(room, at, height, found);
+        note(room, at, height, found, choice, w.top);
         return;
     }
     enter(room, w.goal, w.supposed, w.parameters, at);
-    note(room, at, height, found);
+    note(room, at, height, found, choice, w.top);
 }
 
 // A slot emptied, if what it holds was found under so many supposed clauses.

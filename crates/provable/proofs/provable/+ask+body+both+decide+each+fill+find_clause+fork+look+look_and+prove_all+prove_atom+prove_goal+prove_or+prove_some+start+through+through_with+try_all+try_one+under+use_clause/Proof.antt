@@ -97,6 +97,7 @@ use Rattle.proving.proofs.clauses.Reads as clauses-reads
 use Rattle.proving.proofs.deeper.Reads as deeper-reads
 use Rattle.proving.proofs.is_fact.Reads as is-fact-reads
 use Rattle.proving.proofs.open_clause.Reads as open-clause-reads
+use Rattle.proving.proofs.rule_number.Reads as rule-number-reads
 use Rattle.proving.proofs.body_place.Reads as body-place-reads
 use Rattle.proving.proofs.parts_of.Reads as parts-of-reads
 use Rattle.proving.proofs.clause_parts.Reads as clause-parts-reads
@@ -455,56 +456,60 @@ both-returns-3 : (t : ℕ) → both-lts.Need-returns-3 (within-reads.Asked, with
 both-returns-3 t c = laws.both-second (c .before .before .before .before .before .before .before .before .before .before .before .before .before .within .ensures) (c .before .before .before .within2 .ensures) (c .before .before .before .before .before .before .before .before .past-part .ensures) (c .before .before .before .before .before .before .n .given .1) (c .before .before .before .before .before .before .before .before .before .before .before .before .prove-goal .ensures) (not-false (c .before .before .before .before .before .before .before .before .before .before .before .before .prove-goal .result) (c .before .before .before .before .before .before .before .before .before .if1 .left)) (c .before .before .before .before .before .before .before .before .before .before .before .before .prove-goal .kept .1 .1 .1 .0) (c .before .before .prove-goal2 .ensures)
 
 -- src/provable.rt:240:9
-decide-find-clause-requires : (t : ℕ) → decide-lts.Need-find-clause-requires (find-clause-below t, find-clause.Post, clauses-reads.Asked, clauses-reads.Learnt, plus-reads.Asked, plus-reads.Learnt, keep-reads.Asked, keep-reads.Learnt, is-fact-reads.Asked, is-fact-reads.Learnt) (decide-at t) decide.Post
+decide-find-clause-requires : (t : ℕ) → decide-lts.Need-find-clause-requires (find-clause-below t, find-clause.Post, clauses-reads.Asked, clauses-reads.Learnt, plus-reads.Asked, plus-reads.Learnt, keep-reads.Asked, keep-reads.Learnt, is-fact-reads.Asked, is-fact-reads.Learnt, rule-number-reads.Asked, rule-number-reads.Learnt) (decide-at t) decide.Post
 decide-find-clause-requires t c κs = (omega (arith, c .before .before .before .before .before .pre .0), tt)
 
 -- src/provable.rt:241:8
-decide-clauses-requires : (t : ℕ) → decide-lts.Need-clauses-requires (find-clause-below t, find-clause.Post, clauses-reads.Asked, clauses-reads.Learnt, plus-reads.Asked, plus-reads.Learnt, keep-reads.Asked, keep-reads.Learnt, is-fact-reads.Asked, is-fact-reads.Learnt) (decide-at t) decide.Post
+decide-clauses-requires : (t : ℕ) → decide-lts.Need-clauses-requires (find-clause-below t, find-clause.Post, clauses-reads.Asked, clauses-reads.Learnt, plus-reads.Asked, plus-reads.Learnt, keep-reads.Asked, keep-reads.Learnt, is-fact-reads.Asked, is-fact-reads.Learnt, rule-number-reads.Asked, rule-number-reads.Learnt) (decide-at t) decide.Post
 decide-clauses-requires t c κs = search needs
 
 -- src/provable.rt:242:43
-decide-plus-requires : (t : ℕ) → decide-lts.Need-plus-requires (find-clause-below t, find-clause.Post, clauses-reads.Asked, clauses-reads.Learnt, plus-reads.Asked, plus-reads.Learnt, keep-reads.Asked, keep-reads.Learnt, is-fact-reads.Asked, is-fact-reads.Learnt) (decide-at t) decide.Post
+decide-plus-requires : (t : ℕ) → decide-lts.Need-plus-requires (find-clause-below t, find-clause.Post, clauses-reads.Asked, clauses-reads.Learnt, plus-reads.Asked, plus-reads.Learnt, keep-reads.Asked, keep-reads.Learnt, is-fact-reads.Asked, is-fact-reads.Learnt, rule-number-reads.Asked, rule-number-reads.Learnt) (decide-at t) decide.Post
 decide-plus-requires t c κs = search needs
 
 -- src/provable.rt:242:9
-decide-keep-requires : (t : ℕ) → decide-lts.Need-keep-requires (find-clause-below t, find-clause.Post, clauses-reads.Asked, clauses-reads.Learnt, plus-reads.Asked, plus-reads.Learnt, keep-reads.Asked, keep-reads.Learnt, is-fact-reads.Asked, is-fact-reads.Learnt) (decide-at t) decide.Post
+decide-keep-requires : (t : ℕ) → decide-lts.Need-keep-requires (find-clause-below t, find-clause.Post, clauses-reads.Asked, clauses-reads.Learnt, plus-reads.Asked, plus-reads.Learnt, keep-reads.Asked, keep-reads.Learnt, is-fact-reads.Asked, is-fact-reads.Learnt, rule-number-reads.Asked, rule-number-reads.Learnt) (decide-at t) decide.Post
 decide-keep-requires t c κs = search needs
 
 -- src/provable.rt:243:9
-decide-same-length : (t : ℕ) → decide-lts.Need-same-length (find-clause-below t, find-clause.Post, clauses-reads.Asked, clauses-reads.Learnt, plus-reads.Asked, plus-reads.Learnt, keep-reads.Asked, keep-reads.Learnt, is-fact-reads.Asked, is-fact-reads.Learnt) (decide-at t) decide.Post
+decide-same-length : (t : ℕ) → decide-lts.Need-same-length (find-clause-below t, find-clause.Post, clauses-reads.Asked, clauses-reads.Learnt, plus-reads.Asked, plus-reads.Learnt, keep-reads.Asked, keep-reads.Learnt, is-fact-reads.Asked, is-fact-reads.Learnt, rule-number-reads.Asked, rule-number-reads.Learnt) (decide-at t) decide.Post
 decide-same-length t c = c .before .before .keep .kept .1 .1 .1 .0 ∙ c .before .before .before .before .before .before .before .before .before .before .find-clause .kept .1 .1 .1 .0
 
 -- src/provable.rt:243:9
-decide-returns : (t : ℕ) → decide-lts.Need-returns (find-clause-below t, find-clause.Post, clauses-reads.Asked, clauses-reads.Learnt, plus-reads.Asked, plus-reads.Learnt, keep-reads.Asked, keep-reads.Learnt, is-fact-reads.Asked, is-fact-reads.Learnt) (decide-at t) decide.Post
+decide-returns : (t : ℕ) → decide-lts.Need-returns (find-clause-below t, find-clause.Post, clauses-reads.Asked, clauses-reads.Learnt, plus-reads.Asked, plus-reads.Learnt, keep-reads.Asked, keep-reads.Learnt, is-fact-reads.Asked, is-fact-reads.Learnt, rule-number-reads.Asked, rule-number-reads.Learnt) (decide-at t) decide.Post
 decide-returns t c = atoms.decide-none (c .before .before .before .before .before .before .before .before .before .before .before .before .before .before .before .before .args .at) (c .before .before .before .before .before .before .before .before .before .before .find-clause .ensures .0) (c .before .before .before .before .before .before .before .before .before .before .find-clause .kept .1 .1 .1 .0) (c .before .before .before .before .before .before .clauses .ensures) (c .before .before .before .before .before .if1 .taken) (c .before .before .before .plus .ensures) (c .before .before .keep .ensures .0) (c .before .before .keep .ensures .1)
 
 -- src/provable.rt:245:8
-decide-is-fact-requires : (t : ℕ) → decide-lts.Need-is-fact-requires (find-clause-below t, find-clause.Post, clauses-reads.Asked, clauses-reads.Learnt, plus-reads.Asked, plus-reads.Learnt, keep-reads.Asked, keep-reads.Learnt, is-fact-reads.Asked, is-fact-reads.Learnt) (decide-at t) decide.Post
+decide-is-fact-requires : (t : ℕ) → decide-lts.Need-is-fact-requires (find-clause-below t, find-clause.Post, clauses-reads.Asked, clauses-reads.Learnt, plus-reads.Asked, plus-reads.Learnt, keep-reads.Asked, keep-reads.Learnt, is-fact-reads.Asked, is-fact-reads.Learnt, rule-number-reads.Asked, rule-number-reads.Learnt) (decide-at t) decide.Post
 decide-is-fact-requires t c κs = search needs
 
 -- src/provable.rt:246:9
-decide-same-length-2 : (t : ℕ) → decide-lts.Need-same-length-2 (find-clause-below t, find-clause.Post, clauses-reads.Asked, clauses-reads.Learnt, plus-reads.Asked, plus-reads.Learnt, keep-reads.Asked, keep-reads.Learnt, is-fact-reads.Asked, is-fact-reads.Learnt) (decide-at t) decide.Post
+decide-same-length-2 : (t : ℕ) → decide-lts.Need-same-length-2 (find-clause-below t, find-clause.Post, clauses-reads.Asked, clauses-reads.Learnt, plus-reads.Asked, plus-reads.Learnt, keep-reads.Asked, keep-reads.Learnt, is-fact-reads.Asked, is-fact-reads.Learnt, rule-number-reads.Asked, rule-number-reads.Learnt) (decide-at t) decide.Post
 decide-same-length-2 t c = c .before .before .before .before .before .before .before .before .find-clause .kept .1 .1 .1 .0
 
 -- src/provable.rt:246:9
-decide-returns-2 : (t : ℕ) → decide-lts.Need-returns-2 (find-clause-below t, find-clause.Post, clauses-reads.Asked, clauses-reads.Learnt, plus-reads.Asked, plus-reads.Learnt, keep-reads.Asked, keep-reads.Learnt, is-fact-reads.Asked, is-fact-reads.Learnt) (decide-at t) decide.Post
+decide-returns-2 : (t : ℕ) → decide-lts.Need-returns-2 (find-clause-below t, find-clause.Post, clauses-reads.Asked, clauses-reads.Learnt, plus-reads.Asked, plus-reads.Learnt, keep-reads.Asked, keep-reads.Learnt, is-fact-reads.Asked, is-fact-reads.Learnt, rule-number-reads.Asked, rule-number-reads.Learnt) (decide-at t) decide.Post
 decide-returns-2 t c = atoms.decide-fact (c .before .before .before .before .before .before .before .before .before .before .before .before .before .before .args .at) (c .before .before .before .before .before .before .before .before .find-clause .ensures .0) (c .before .before .before .before .before .before .before .before .find-clause .kept .1 .1 .1 .0) (c .before .before .before .before .clauses .ensures) (c .before .before .before .if1 .left)
 
 -- src/provable.rt:248:39
-decide-plus-requires-2 : (t : ℕ) → decide-lts.Need-plus-requires-2 (find-clause-below t, find-clause.Post, clauses-reads.Asked, clauses-reads.Learnt, plus-reads.Asked, plus-reads.Learnt, keep-reads.Asked, keep-reads.Learnt, is-fact-reads.Asked, is-fact-reads.Learnt) (decide-at t) decide.Post
+decide-rule-number-requires : (t : ℕ) → decide-lts.Need-rule-number-requires (find-clause-below t, find-clause.Post, clauses-reads.Asked, clauses-reads.Learnt, plus-reads.Asked, plus-reads.Learnt, keep-reads.Asked, keep-reads.Learnt, is-fact-reads.Asked, is-fact-reads.Learnt, rule-number-reads.Asked, rule-number-reads.Learnt) (decide-at t) decide.Post
+decide-rule-number-requires t c κs = search needs
+
+-- src/provable.rt:248:39
+decide-plus-requires-2 : (t : ℕ) → decide-lts.Need-plus-requires-2 (find-clause-below t, find-clause.Post, clauses-reads.Asked, clauses-reads.Learnt, plus-reads.Asked, plus-reads.Learnt, keep-reads.Asked, keep-reads.Learnt, is-fact-reads.Asked, is-fact-reads.Learnt, rule-number-reads.Asked, rule-number-reads.Learnt) (decide-at t) decide.Post
 decide-plus-requires-2 t c κs = search needs
 
 -- src/provable.rt:248:5
-decide-keep-requires-2 : (t : ℕ) → decide-lts.Need-keep-requires-2 (find-clause-below t, find-clause.Post, clauses-reads.Asked, clauses-reads.Learnt, plus-reads.Asked, plus-reads.Learnt, keep-reads.Asked, keep-reads.Learnt, is-fact-reads.Asked, is-fact-reads.Learnt) (decide-at t) decide.Post
+decide-keep-requires-2 : (t : ℕ) → decide-lts.Need-keep-requires-2 (find-clause-below t, find-clause.Post, clauses-reads.Asked, clauses-reads.Learnt, plus-reads.Asked, plus-reads.Learnt, keep-reads.Asked, keep-reads.Learnt, is-fact-reads.Asked, is-fact-reads.Learnt, rule-number-reads.Asked, rule-number-reads.Learnt) (decide-at t) decide.Post
 decide-keep-requires-2 t c κs = search needs
 
 -- src/provable.rt:227:1
-decide-same-length-3 : (t : ℕ) → decide-lts.Need-same-length-3 (find-clause-below t, find-clause.Post, clauses-reads.Asked, clauses-reads.Learnt, plus-reads.Asked, plus-reads.Learnt, keep-reads.Asked, keep-reads.Learnt, is-fact-reads.Asked, is-fact-reads.Learnt) (decide-at t) decide.Post
-decide-same-length-3 t c = c .before .before .keep2 .kept .1 .1 .1 .0 ∙ c .before .before .before .before .before .before .before .before .before .before .before .before .before .find-clause .kept .1 .1 .1 .0
+decide-same-length-3 : (t : ℕ) → decide-lts.Need-same-length-3 (find-clause-below t, find-clause.Post, clauses-reads.Asked, clauses-reads.Learnt, plus-reads.Asked, plus-reads.Learnt, keep-reads.Asked, keep-reads.Learnt, is-fact-reads.Asked, is-fact-reads.Learnt, rule-number-reads.Asked, rule-number-reads.Learnt) (decide-at t) decide.Post
+decide-same-length-3 t c = c .before .before .keep2 .kept .1 .1 .1 .0 ∙ c .before .before .before .before .before .before .before .before .before .before .before .before .before .before .before .find-clause .kept .1 .1 .1 .0
 
 -- src/provable.rt:227:1
-decide-returns-3 : (t : ℕ) → decide-lts.Need-returns-3 (find-clause-below t, find-clause.Post, clauses-reads.Asked, clauses-reads.Learnt, plus-reads.Asked, plus-reads.Learnt, keep-reads.Asked, keep-reads.Learnt, is-fact-reads.Asked, is-fact-reads.Learnt) (decide-at t) decide.Post
-decide-returns-3 t c = atoms.decide-some (c .before .before .before .before .before .before .before .before .before .before .before .before .before .before .before .before .before .before .before .args .at) (c .before .before .before .before .before .before .before .before .before .before .before .before .before .find-clause .ensures .0) (c .before .before .before .before .before .before .before .before .before .before .before .before .before .find-clause .kept .1 .1 .1 .0) (c .before .before .before .before .before .before .before .before .before .clauses .ensures) (c .before .before .before .before .before .before .before .before .if1 .left) (c .before .before .before .plus2 .ensures) (c .before .before .keep2 .ensures .0) (c .before .before .keep2 .ensures .1)
+decide-returns-3 : (t : ℕ) → decide-lts.Need-returns-3 (find-clause-below t, find-clause.Post, clauses-reads.Asked, clauses-reads.Learnt, plus-reads.Asked, plus-reads.Learnt, keep-reads.Asked, keep-reads.Learnt, is-fact-reads.Asked, is-fact-reads.Learnt, rule-number-reads.Asked, rule-number-reads.Learnt) (decide-at t) decide.Post
+decide-returns-3 t c = atoms.decide-some (c .before .before .before .before .before .before .before .before .before .before .before .before .before .before .before .before .before .before .before .before .before .args .at) (c .before .before .before .before .before .before .before .before .before .before .before .before .before .before .before .find-clause .ensures .0) (c .before .before .before .before .before .before .before .before .before .before .before .before .before .before .before .find-clause .ensures .1) (c .before .before .before .before .before .before .before .before .before .before .before .before .before .before .before .find-clause .kept .1 .1 .1 .0) (c .before .before .before .before .before .before .before .before .before .before .before .clauses .ensures) (c .before .before .before .before .before .before .before .before .before .before .if1 .left) (c .before .before .before .plus2 .ensures) (c .before .before .before .before .before .rule-number .ensures) (c .before .before .keep2 .ensures .0) (c .before .before .keep2 .ensures .1)
 
 abbrev each-Inv-loop : each-lts.InvT-loop
 each-Inv-loop rules goal terms room₀ w x nest left n i₀ room i =
@@ -1666,6 +1671,8 @@ pub +ask+body+both+decide+each+fill+find-clause+fork+look+look-and+prove-all+pro
       keep-reads.Learnt,
       is-fact-reads.Asked,
       is-fact-reads.Learnt,
+      rule-number-reads.Asked,
+      rule-number-reads.Learnt,
     )
     (decide-at t)
     decide.Post
@@ -1678,6 +1685,7 @@ pub +ask+body+both+decide+each+fill+find-clause+fork+look+look-and+prove-all+pro
     (decide-is-fact-requires t)
     (decide-same-length-2 t)
     (decide-returns-2 t)
+    (decide-rule-number-requires t)
     (decide-plus-requires-2 t)
     (decide-keep-requires-2 t)
     (decide-same-length-3 t)

@@ -1,7 +1,5 @@
 -- `recall` of src/asked.rt meets its contract. Assumes nothing.
 use borrow.Author.Tests.{not-false}
-use Rattle.room.specs.Where.{filesOf}
-use Rattle.table.proofs.GoodLaws.{recalls-no, recalls-yes}
 use Prim.Native.Nat.{ℕ, _+_, _*_, _≤_, _-_}
 use mathlib.Core.Path.{_≡_, sym, ap, _∙_, subst}
 use native.Mathlib.Omega.{arith}
@@ -36,7 +34,7 @@ cast-if3 c = search needs
 -- src/asked.rt:54:9
 returns-3 : tie.Need-returns-3
 returns-3 c = let x = c .before .before .before .before .before .before .before .before .before .args in
-    recalls-no (filesOf (x .rules .now) (x .goal .now) (x .terms .now)) (x .room .now) (x .w) (x .height) (x .at) (c .before .before .before .is-this .ensures (not-false _ (c .before .before .if2 .left))) (c .before .before .before .before .if1 .left) (subst (λ (n : ℕ). x .height ≤ n) (c .before .word .ensures) (c .if3 .taken))
+    (c .before .before .before .is-this .ensures (not-false _ (c .before .before .if2 .left)), omega (arith, c .before .before .before .before .if1 .left), subst (λ (n : ℕ). x .height ≤ n) (c .before .word .ensures) (c .if3 .taken))
 
 -- src/asked.rt:56:18
 word-requires-2 : tie.Need-word-requires-2
@@ -53,7 +51,7 @@ returns-4 c = search needs
 -- src/asked.rt:61:9
 returns-5 : tie.Need-returns-5
 returns-5 c = let x = c .before .before .before .before .before .before .before .before .before .before .before .before .args in
-    recalls-yes (filesOf (x .rules .now) (x .goal .now) (x .terms .now)) (x .room .now) (x .w) (x .height) (x .at) (c .before .before .before .before .before .before .is-this .ensures (not-false _ (c .before .before .before .before .before .if2 .left))) (λ e. c .before .if4 .left (c .before .before .word2 .ensures ∙ e)) (subst (λ (n : ℕ). n ≤ x .height) (c .before .before .word2 .ensures) (c .if5 .taken))
+    (c .before .before .before .before .before .before .is-this .ensures (not-false _ (c .before .before .before .before .before .if2 .left)), omega (arith, c .before .if4 .left, c .before .before .word2 .ensures), subst (λ (n : ℕ). n ≤ x .height) (c .before .before .word2 .ensures) (c .if5 .taken))
 
 -- src/asked.rt:36:1
 returns-6 : tie.Need-returns-6
