@@ -20,7 +20,7 @@ use Rattle.sexp.specs.Known.{Known, textOf}
 use Rattle.sexp.specs.Text.{VerbatimAt, TextAt}
 use Rattle.sexp.specs.Strings.{Plain}
 use Rattle.sexp.specs.Past.{Ends, PastAt, StringEnd}
-use Rattle.sexp.proofs.DecimalLaws.{digit-high}
+use Rattle.sexp.proofs.DecimalLaws.{digit-low, digit-high}
 use Rattle.sexp.proofs.SpellLaws.{spell-length}
 use Rattle.sexp.proofs.OntoLaws.{spell-some}
 use Rattle.sexp.proofs.StandLaws.{none-closes, stands-inside, all-before, stands-once, members-stand, first-stands, others-stand, list-stands, none-stand, more-stand, opens-list, opens-not, list-length, cons-length}
@@ -202,3 +202,25 @@ module _ (s : List ℕ) (at : ℕ) (b : length s < 9223372036854775808) where
 
   pub string-none : PastAt s at 0 Nothing → StringEnd s at 18446744073709551615
   string-none h = record { ends = λ l. absurd (omega (arith, l, b)); none = λ l. h }
+
+-- a list that holds no other may stand wherever a list may
+pub pair-past : (s : List ℕ) (at nest n : ℕ) → (nest ≡ 0 → ⊥) → Ends s at 1 n → Ends s at nest n
+pair-past s at nest n z h = record { expression = h .expression; stands = h .stands; shallow = omega (arith, z, h .shallow); ends = h .ends }
+
+-- the end of a list of two strings whose lengths are one digit each, the first of them 1
+module _ (s : List ℕ) (at : ℕ) (b : length s < 9223372036854775808) where
+  pub pair-ends : (n : ℕ) → getD s at 0 ≡ 40 → getD s (at + 1) 0 ≡ 49 → getD s (at + 2) 0 ≡ 58 → isDigit (getD s (at + 4) 0) ≡ true → getD s (at + 5) 0 ≡ 58 → n ≡ at + 6 + (getD s (at + 4) 0 - 48) → n < length s → getD s n 0 ≡ 41 → Ends s at 1 (n + 1)
+  unfolding isDigit
+  pair-ends n o e c d f q l z = past-whole s at 1 n o (λ k. omega arith) last z
+    where
+      first : Going s at 0 (at + 4)
+      first =
+          subst (Going s at 0) {x = at + 1 + 2 + (getD s (at + 1) 0 - 48)} {y = at + 4} (omega (arith, e))
+          (going-string s at 0 (at + 1) (going-start s at 0) (at + 1 + 2 + (getD s (at + 1) 0 - 48)) (λ k. omega (arith, e, k)) (λ k. omega (arith, e, k))
+          (string-short s (at + 1) b (omega (arith, q, l)) (ap isDigit e) (ap (λ (i : ℕ). getD s i 0) {x = at + 1 + 1} {y = at + 2} (omega arith) ∙ c)))
+
+      last : Going s at 0 n
+      last =
+          subst (Going s at 0) {x = at + 4 + 2 + (getD s (at + 4) 0 - 48)} {y = n} (omega (arith, q))
+          (going-string s at 0 (at + 4) first (at + 4 + 2 + (getD s (at + 4) 0 - 48)) (λ k. omega (arith, k, digit-low (getD s (at + 4) 0) d)) (λ k. omega (arith, k, digit-low (getD s (at + 4) 0) d))
+          (string-short s (at + 4) b (omega (arith, q, l)) d (ap (λ (i : ℕ). getD s i 0) {x = at + 4 + 1} {y = at + 5} (omega arith) ∙ f)))

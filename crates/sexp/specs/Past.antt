@@ -22,3 +22,7 @@ PastAt s at nest Nothing = (e : Sexp) → Stands s at e → nesting e ≤ nest �
 pub record StringEnd (s : List ℕ) (at n : ℕ) : Type 0 where
   pub ends : n ≤ length s → Ends s at 0 n
   pub none : length s < n → PastAt s at 0 Nothing
+
+-- n is 0, or a list that holds no other stands from an offset up to n
+abbrev pub PairEnd : List ℕ → ℕ → ℕ → Type 0
+PairEnd s at n = (n ≡ 0 → ⊥) → Ends s at 1 n
