@@ -140,6 +140,28 @@ module _ (s : List ℕ) (a n : ℕ) where
       let e : left i ≡ [] = ap (λ (m : ℕ). take m (drop (a + i) s)) {x = n - i} {y = 0} (omega arith) in
       record { octets = q .octets (subst Octets (sym e) tt); key = sym (ap (keyFrom k) e) ∙ q .key }
 
+-- the number of three octets and of four, read at once
+module _ (s : List ℕ) (a : ℕ) (o : (i : ℕ) → getD s i 0 < 256) where
+  abbrev pub three : ℕ
+  three = 16777216 + getD s a 0 * 65536 + getD s (a + 1) 0 * 256 + getD s (a + 2) 0
+
+  part-three : (n : ℕ) → a + n ≤ length s → 3 ≤ n → Part (take n (drop a s)) (left s a n 3) three
+  part-three n p h =
+      let z = ap (λ (i : ℕ). getD s i 0) {x = a + 0} {y = a} (omega arith) in
+      let k = 1 * 256 + getD s (a + 0) 0 in
+      let one = part-next s a n 0 1 p (omega arith) (o (a + 0)) (part-start s a n) in
+      let two = part-next s a n 1 k p (omega arith) (o (a + 1)) one in
+      subst (λ (x : ℕ). Part (take n (drop a s)) (left s a n 3) x) {x = (k * 256 + getD s (a + 1) 0) * 256 + getD s (a + 2) 0} {y = three} (omega (arith, z))
+      (part-next s a n 2 (k * 256 + getD s (a + 1) 0) p (omega arith) (o (a + 2)) two)
+
+  pub keyed-three : a + 3 ≤ length s → Keyed (take 3 (drop a s)) three
+  keyed-three p = part-end s a 3 3 three (omega arith) (part-three 3 p (omega arith))
+
+  pub keyed-four : a + 4 ≤ length s → Keyed (take 4 (drop a s)) (4294967296 + getD s a 0 * 16777216 + getD s (a + 1) 0 * 65536 + getD s (a + 2) 0 * 256 + getD s (a + 3) 0)
+  keyed-four p =
+      subst (Keyed (take 4 (drop a s))) {x = three * 256 + getD s (a + 3) 0} {y = 4294967296 + getD s a 0 * 16777216 + getD s (a + 1) 0 * 65536 + getD s (a + 2) 0 * 256 + getD s (a + 3) 0} (omega arith)
+      (part-end s a 4 4 (three * 256 + getD s (a + 3) 0) (omega arith) (part-next s a 4 3 three p (omega arith) (o (a + 3)) (part-three 4 p (omega arith))))
+
 -- the numbers stay small: before i octets are read, below this
 unfoldable pub top : ℕ → ℕ
 top zero = 2

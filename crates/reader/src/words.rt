@@ -3,7 +3,8 @@ use packet::Word;
 ghost use Prim.Native.Nat.{ℕ, _+_, _≤_};
 ghost use mathlib.Core.Path.{_≡_};
 ghost use mathlib.Core.List.{List};
-ghost use lib.ListN.{length, take, drop};
+ghost use mathlib.Core.Bool.{true};
+ghost use lib.ListN.{length, getD, take, drop};
 ghost use Rattle.reader.specs.Key.{Keyed};
 ghost use Rattle.packet.specs.Table.{wordOf};
 ghost use Rattle.reader.specs.WordAt.{WordAt};
@@ -62,8 +63,63 @@ pub(crate) fn word_of(s: &[u8], from: usize, count: usize) -> Word
     word_by(k)
 }
 
-// The word of the plain string that stands at an offset; nothing where none does, or where it is no word.
+// The number of the three octets from an offset on.
+fn key_three(s: &[u8], from: usize) -> u64
+    requires { ⌜ from + 3 ≤ length (now s) ⌝ }
+    ensures { λ r. ⌜ Keyed (take 3 (drop from (now (s .entry)))) r ⌝ }
+{
+    let a = s[from] as u64;
+    let b = s[from + 1] as u64;
+    let c = s[from + 2] as u64;
+    16777216 + a * 65536 + b * 256 + c
+}
+
+// The number of the four octets from an offset on.
+fn key_four(s: &[u8], from: usize) -> u64
+    requires { ⌜ from + 4 ≤ length (now s) ⌝ }
+    ensures { λ r. ⌜ Keyed (take 4 (drop from (now (s .entry)))) r ⌝ }
+{
+    let a = s[from] as u64;
+    let b = s[from + 1] as u64;
+    let c = s[from + 2] as u64;
+    let d = s[from + 3] as u64;
+    4294967296 + a * 16777216 + b * 65536 + c * 256 + d
+}
+
+// A yes says that six bytes or more stand at an offset, and that the second is a colon.
+fn is_colon_next(s: &[u8], at: usize) -> bool
+    ensures { λ r. ⌜ (r ≡ true → (at + 6 ≤ length (now (s .entry))) × (getD (now (s .entry)) (at + 1) 0 ≡ 58)) ⌝ }
+{
+    if s.len() <= at {
+        return false;
+    }
+    if s.len() - at < 6 {
+        return false;
+    }
+    s[at + 1] == 58
+}
+
+// The word of the plain string that stands at an offset; nothing where none does, or where it is no word. Nearly every word has three octets or four, and is then read at once.
 pub fn word_at(s: &[u8], at: usize) -> Word
+    ensures { λ r. ⌜ WordAt (now (s .entry)) at r ⌝ }
+{
+    if !is_colon_next(s, at) {
+        return word_long(s, at);
+    }
+    let n = s[at];
+    if n == 51 {
+        let k = key_three(s, at + 2);
+        return word_by(k);
+    }
+    if n == 52 {
+        let k = key_four(s, at + 2);
+        return word_by(k);
+    }
+    word_long(s, at)
+}
+
+// The same for a word of any length.
+fn word_long(s: &[u8], at: usize) -> Word
     ensures { λ r. ⌜ WordAt (now (s .entry)) at r ⌝ }
 {
     match sexp::plain(s, at) {
