@@ -134,9 +134,9 @@ fn write<'a>(
 ) -> Proposal
     ensures { λ r. ⌜ Filling height (now (rules .entry)) (now (goal .entry)) (now (terms .entry)) (now (room .entry)) (now (strip .entry)) (now (strip .exit)) r ⌝ }
 {
-    let mut scratch = [0u8; 1024];
+    let mut scratch = [0u8; 2048];
     let first = measure(rules, goal, terms, height, &mut scratch, room);
-    if 1024 < first.at {
+    if 2048 < first.at {
         return write_long(rules, goal, terms, height, strip, room);
     }
     hand_over(strip, &scratch, first)
