@@ -127,6 +127,26 @@ fn either(a: bool, b: bool) -> bool
     if a { true } else { b }
 }
 
+// A member of a list: a word or a name holds nothing, and is passed at once.
+fn meets_member(
+    s: &[u8],
+    at: usize,
+    depth: usize,
+    nest: usize,
+    room: &[u32],
+    x: Spot,
+    own: usize,
+    also: bool,
+    v: usize,
+) -> Met
+    ensures { λ r. ⌜ Meets (now (s .entry)) at depth nest (asked own (bindingsAt (now (room .entry)) x) also v) (asked own (bindingsAt (now (room .entry)) x) true v) r ⌝ }
+{
+    if !opens(s, at) {
+        return ended(past(s, at, nest), false);
+    }
+    meets(s, at, depth, nest, room, x, own, also, v)
+}
+
 // One walk through the expression at an offset, up to the first variable of the frame that is unset, or is variable v if that one is asked for.
 pub fn meets(
     s: &[u8],
@@ -154,7 +174,7 @@ pub fn meets(
     let mut q = plus(at, 1);
     let mut with = false;
     while !closes(s, q) {
-        match meets(s, q, d, nest - 1, room, x, own, also, v) {
+        match meets_member(s, q, d, nest - 1, room, x, own, also, v) {
             Met::Asked => {
                 return Met::Asked;
             }
