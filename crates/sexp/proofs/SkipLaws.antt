@@ -49,6 +49,13 @@ plain-order s at from to r q h = let z = subst (λ (x : Reading). VerbatimAt s a
 pub plain-stuck : (s : List ℕ) (at o : ℕ) (r : Reading) → r ≡ Stuck o → VerbatimAt s at r → (w : List ℕ) → Stands s at (str w) → ⊥
 plain-stuck s at o r q h w g = subst (λ (x : Reading). VerbatimAt s at x) q h .0 w (g .rest) (g .spelt)
 
+-- one whose length is one digit
+pub plain-short : (s : List ℕ) (at : ℕ) → at + 1 < length s → isDigit (getD s at 0) ≡ true → getD s (at + 1) 0 ≡ 58 → getD s at 0 - 48 < length s - at - 1 → length s < 9223372036854775808 → Plain s at (at + 2) (getD s at 0 - 48)
+plain-short s at h d c l b =
+    let to = at + 2 + (getD s at 0 - 48) in
+    subst (Plain s at (at + 2)) {x = to - (at + 2)} {y = getD s at 0 - 48} (omega arith)
+    (plain-spans s at (at + 2) to (Spans (at + 2) to) refl (short-spans s at h d c l b))
+
 -- the same of a string with a hint or without
 flat : (h : Option (List ℕ)) (bs : List ℕ) → nesting (textOf h bs) ≡ 0
 flat none bs = refl

@@ -1,11 +1,14 @@
 -- What is said of the words, names and numbers among the plain strings at an offset of any bytes (document 01, "The carrier and the words").
-use Prim.Native.Nat.{ℕ}
+use Prim.Native.Nat.{ℕ, _+_, _-_}
 use mathlib.Core.Path.{_≡_}
 use mathlib.Core.Bool.{true}
 use mathlib.Core.List.{List}
+use lib.ListN.{getD}
 use Rattle.sexp.specs.declared.words.Value.{Value}
 use Rattle.sexp.specs.declared.words.Value.the-variants.{Is, Nothing}
+use Rattle.sexp.specs.Decimal.{isDigit}
 use Rattle.sexp.specs.Sexp.{str, Stands}
+use Rattle.sexp.specs.Strings.{Plain}
 use Rattle.sexp.specs.Words.{isName, isNumber, worth}
 
 -- a name stands at an offset
@@ -19,6 +22,10 @@ pub record Shared (s : List ℕ) (i : ℕ) (t : List ℕ) (j : ℕ) : Type 0 whe
   pub octets : List ℕ
   pub here : Stands s i (str octets)
   pub there : Stands t j (str octets)
+
+-- a plain string whose length is one digit stands at an offset
+abbrev pub ShortAt : List ℕ → ℕ → Type 0
+ShortAt s at = (isDigit (getD s at 0) ≡ true) × Plain s at (at + 2) (getD s at 0 - 48)
 
 -- a number that says n stands at an offset
 pub record Numeral (s : List ℕ) (at n : ℕ) : Type 0 where

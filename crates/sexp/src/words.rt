@@ -4,10 +4,11 @@ use crate::decimal::number as digits;
 use crate::strings::Octets;
 use crate::strings::plain;
 ghost use mathlib.Core.Path.{_≡_};
+ghost use mathlib.Core.Bool.{true};
 ghost use Rattle.basics.specs.Tells.{Tells};
 ghost use Rattle.sexp.specs.Sexp.{Sexp, str, Stands};
 ghost use Rattle.sexp.specs.Words.{isLetter, isNameOctet, isName};
-ghost use Rattle.sexp.specs.WordsAt.{Named, Shared, NumeralOf, NumberAt};
+ghost use Rattle.sexp.specs.WordsAt.{Named, Shared, ShortAt, NumeralOf, NumberAt};
 
 // What a number says.
 pub enum Value {
@@ -69,8 +70,42 @@ fn is_word_long(s: &[u8], at: usize, word: &[u8]) -> bool
     }
 }
 
-// Whether the same plain string stands at two offsets.
+// A yes says that a string whose length is one digit stands at an offset.
+fn is_short(s: &[u8], at: usize) -> bool
+    ensures { λ r. ⌜ (r ≡ true → ShortAt (now (s .entry)) at) ⌝ }
+{
+    if s.len() <= at {
+        return false;
+    }
+    if s.len() - at < 2 {
+        return false;
+    }
+    if s[at + 1] != 58 {
+        return false;
+    }
+    let n = s[at];
+    if !digit(n) {
+        return false;
+    }
+    let count = (n - 48) as usize;
+    count < s.len() - at - 1
+}
+
+// Whether the same plain string stands at two offsets. Nearly every length has one digit, and is then read at once.
 pub fn same_text(s: &[u8], i: usize, t: &[u8], j: usize) -> bool
+    ensures { λ r. ⌜ Tells r (Shared (now (s .entry)) i (now (t .entry)) j) ⌝ }
+{
+    if !is_short(t, j) {
+        return same_text_long(s, i, t, j);
+    }
+    let count = (t[j] - 48) as usize;
+    let from = j + 2;
+    let to = from + count;
+    is_word(s, i, &t[from..to])
+}
+
+// The same for strings of any length.
+fn same_text_long(s: &[u8], i: usize, t: &[u8], j: usize) -> bool
     ensures { λ r. ⌜ Tells r (Shared (now (s .entry)) i (now (t .entry)) j) ⌝ }
 {
     match plain(t, j) {
