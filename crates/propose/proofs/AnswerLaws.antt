@@ -53,6 +53,10 @@ counted-long size n m e l = omega arith
 counted-short : (size n m : ℕ) → m ≡ counted n → m ≤ min size mostBytes → (n ≤ min size mostBytes) × (m ≡ n)
 counted-short size n m e l = (omega arith, omega arith)
 
+-- a strip that the buffer has no room for, by what is counted of it
+no-room : (S : Strip) (d : List ℕ) (n : ℕ) (q : Proposal) → n ≡ counted (length (written S)) → min (length d) mostBytes < n → q ≡ proposal (Comes.refuses R.Buffer F.None) → Says (unlessLong (length d) S) d d q
+no-room S d n q e l a = refusing (unlessLong (length d) S) R.Buffer F.None d q (unless-long (length d) S (counted-long (length d) (length (written S)) n e l)) a
+
 -- the strip that is written, by its measures
 finding : (x : Comes) (S : Strip) (d d′ : List ℕ) (m : Drawn) → x ≡ Comes.writes S → m .height ≡ height S → m .nodes ≡ nodes S → m .at ≡ length (written S) → d′ ≡ over (written S) d → Says x d d′ (P.Found (m .height) (m .nodes) (m .at))
 unfolding left proposal
@@ -76,9 +80,7 @@ front-inside z n l = sym (length-take-le n z l)
 -- the first strip drawn into `z`: copied only if it is not too long
 module _ (z′ d : List ℕ) (m : Drawn) (most : ℕ) (w : most ≡ min (length d) mostBytes) where
   pub too-long : (q : Proposal) → most < m .at → q ≡ proposal (Comes.refuses R.Buffer F.None) → Handing z′ m d d q
-  too-long q n a h rs gs ts room after z same v b S s e =
-      let y = v b S s e in
-      refusing (unlessLong (length d) S) R.Buffer F.None d q (unless-long (length d) S (counted-long (length d) (length (written S)) (m .at) (y .long) (omega arith))) a
+  too-long q n a h rs gs ts room after z same v b S s e = no-room S d (m .at) q (v b S s e .long) (omega arith) a
 
   pub strip-copied : (d′ : List ℕ) (next : ℕ) → m .at ≤ most → m .at ≤ length z′ → Puts 0 (take (m .at) z′) d d′ next → Handing z′ m d d′ (P.Found (m .height) (m .nodes) (m .at))
   strip-copied d′ next n l p h rs gs ts room after z same v b S s e =
@@ -90,9 +92,7 @@ module _ (z′ d : List ℕ) (m : Drawn) (most : ℕ) (w : most ≡ min (length 
 -- a strip that is longer than any may be, whatever the buffer; and one that is drawn once more, since the packet stays set out
 module _ (h : ℕ) (rs gs ts room after z z′ d : List ℕ) (m : Drawn) (v : Measuring h rs gs ts room after z z′ m) where
   pub longer-than-any : (q : Proposal) → mostBytes < m .at → q ≡ proposal (Comes.refuses R.Buffer F.None) → Filling h rs gs ts room d d q
-  longer-than-any q n a b S s e =
-      let y = v b S s e in
-      refusing (unlessLong (length d) S) R.Buffer F.None d q (unless-long (length d) S (counted-long (length d) (length (written S)) (m .at) (y .long) (omega arith))) a
+  longer-than-any q n a b S s e = no-room S d (m .at) q (v b S s e .long) (omega arith) a
 
   pub drawn-again : (d′ : List ℕ) (q : Proposal) → Filling h rs gs ts after d d′ q → Filling h rs gs ts room d d′ q
   drawn-again d′ q f b S s e = f b S (v b S s e .stays) e
