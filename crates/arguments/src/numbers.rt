@@ -21,14 +21,14 @@ fn number_at<'a>(
     ensures { NumberAt (files_of rules.now goal.now terms.now) room.now x own v result }
 {
     let source = x.source;
-    let s = part(&*rules, &*goal, &*terms, source, x.at);
+    let s = part(rules, goal, terms, source, x.at);
     if is_variable(s, 0, v) {
         return 1021;
     }
-    if holds(s, 0, 0, 64, &*room, x, own, false, 0) {
+    if holds(s, 0, 0, 64, room, x, own, false, 0) {
         return 1022;
     }
-    match candidate_at(&*rules, &*goal, &*terms, &*room, x) {
+    match candidate_at(rules, goal, terms, room, x) {
         Forced::Nothing => 1022,
         Forced::Never => 1023,
         Forced::Candidate(c) => { if c < 1020 { c + 1 } else { 1022 } }
@@ -50,7 +50,7 @@ fn arguments_from<'a>(
     ensures { ArgumentsFrom (files_of rules.now goal.now terms.now) room.now x p own v result }
 {
     let source = x.source;
-    let s = part(&*rules, &*goal, &*terms, source, x.at);
+    let s = part(rules, goal, terms, source, x.at);
     if closes(s, p) {
         return 0;
     }
@@ -60,11 +60,11 @@ fn arguments_from<'a>(
     let After::Next(n) = past(s, p, 64) else {
         return 0xffff_ffff;
     };
-    let rest = arguments_from(&*rules, &*goal, &*terms, &*room, x, n, own, v, most - 1);
+    let rest = arguments_from(rules, goal, terms, room, x, n, own, v, most - 1);
     if 1048576 <= rest {
         return 0xffff_ffff;
     }
-    let k = number_at(&*rules, &*goal, &*terms, &*room, further(x, p), own, v);
+    let k = number_at(rules, goal, terms, room, further(x, p), own, v);
     if k < 1024 {
         return k + rest * 1024;
     }
@@ -84,11 +84,11 @@ pub fn arguments_of<'a>(
     ensures { ArgumentsAt (files_of rules.now goal.now terms.now) room.now x own v result }
 {
     let source = x.source;
-    let s = part(&*rules, &*goal, &*terms, source, x.at);
+    let s = part(rules, goal, terms, source, x.at);
     let After::Next(n) = past(s, 7, 0) else {
         return 0;
     };
-    let r = arguments_from(&*rules, &*goal, &*terms, &*room, x, n, own, v, 3);
+    let r = arguments_from(rules, goal, terms, room, x, n, own, v, 3);
     if r == 0xffff_ffff {
         return 0;
     }

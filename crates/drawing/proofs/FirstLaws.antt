@@ -25,7 +25,7 @@ use Rattle.room.specs.declared.Where.{Where}
 use Rattle.room.proofs.FrameLaws.{word-binding, bound-in}
 use Rattle.room.proofs.WhereLaws.{file-small}
 use Rattle.heads.specs.Predicate.{ClauseThere}
-use Rattle.keys.specs.Keys.{AtomKeyAt, PredicateKeyAt, NextClause}
+use Rattle.keys.specs.Keys.{AtomKeyAt, PredicateKeyAt}
 use Rattle.table.specs.Slots.{numbers_of, numbers_word, words_in, Carried}
 use Rattle.table.specs.Recall.{Chose}
 use Rattle.table.proofs.GoodLaws.{words-alike}
@@ -130,18 +130,18 @@ module _ {f : Files} {room : List ℕ} {w : Where} (left : ℕ) {after : List �
       ∙ words-alike room after (numbers_word room at) w.top (numbers_of room at) (carried.there (omega (arith, t.inside, t.first, rd.low)) (λ i j l m q. omega (arith, t.first, rd.low))))
 
 module _ {f : Files} {room : List ℕ} {w : Where} {left : ℕ} where
-  -- the clause for an atom, which crate provable finds by the numbers of the atom and of its predicate, from the first that may serve it by these
-  pub clause-found : {after : List ℕ} {predicate key first r : ℕ} (n : ℕ) → NextClause room predicate key 0 n first → Finding f room after w predicate key first left r → PredicateKeyAt f w.goal predicate → AtomKeyAt f room w.goal key → FirstClause f room after w left r
+  -- the clause for an atom, which crate provable finds by the numbers of the atom and of its predicate
+  pub clause-found : {after : List ℕ} {predicate key r : ℕ} → PredicateKeyAt f w.goal predicate → AtomKeyAt f room w.goal key → Finding f room after w predicate key left r → FirstClause f room after w left r
   unfolding clause_from
-  clause-found {predicate = predicate} {key = key} {r = r} n next found p k ds us o c bs a i rd h =
+  clause-found {predicate = predicate} {key = key} {r = r} p k found ds us o c bs a i rd h =
       let (e, e') = numbers rd predicate key p k in
-      let y = found ds us o c bs a n rd e e' next in
+      let y = found ds us o c bs a rd e e' in
       record { kept = y.kept; done = yes-found (clause_does (listed us) o c (serves (listed us) left o c bs a)) i r (length c) y.few y.before y.here h }
 
-  pub clause-located : {after : List ℕ} {predicate key first r : ℕ} (n : ℕ) → NextClause room predicate key 0 n first → LocatingFirst f room after w predicate key first left r → PredicateKeyAt f w.goal predicate → AtomKeyAt f room w.goal key → LocatingAt f room after w left r
-  clause-located {predicate = predicate} {key = key} n next m p k ds us o c bs a rd =
+  pub clause-located : {after : List ℕ} {predicate key r : ℕ} → PredicateKeyAt f w.goal predicate → AtomKeyAt f room w.goal key → LocatingFirst f room after w predicate key left r → LocatingAt f room after w left r
+  clause-located {predicate = predicate} {key = key} p k m ds us o c bs a rd =
       let (e, e') = numbers rd predicate key p k in
-      m ds us o c bs a n rd e e' next
+      m ds us o c bs a rd e e'
 
   -- the candidates on the way into the clause of an `all`
   module _ {x : Spot} where

@@ -5,7 +5,6 @@ pub mod SpelledLaws
 pub mod DrawLaws
 pub mod FirstLaws
 pub mod LocatedLaws
-pub mod LeftLaws
 pub mod PathingLaws
 pub mod SomeLaws
 pub mod WritingLaws

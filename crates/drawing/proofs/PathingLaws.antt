@@ -59,7 +59,6 @@ use Rattle.pen.specs.Numeral.{numeral}
 use Rattle.drawing.specs.Chosen.{first_yes, stepping, used_at, candidate_from, clause_from, way}
 use Rattle.pen.specs.Laid.{Puts}
 use Rattle.drawing.specs.Drawn.{Cuts, behind, Closes, Draws, DrawsRest, ended, use_of}
-use Rattle.drawing.specs.Left.{Left}
 use Rattle.drawing.specs.Writing.{Did, Writing, WritingAs, Pathing, PathingAs, FirstClause, NumberThrough}
 use Rattle.drawing.specs.declared.Drawn.{Drawn}
 use Rattle.drawing.proofs.ChosenLaws.{first-atom}
@@ -84,12 +83,12 @@ pathing-at {f} {room} {after} {d} {d'} {w} {nest = nest} {left = left} {at = at}
 pub pathing-from : {f : Files} {room now after d d' : List ℕ} {w : Where} {x : Spot} {nest left at : ℕ} {located : Bool} {r : Drawn} → now ≡ room → Pathing f now after d d' w x nest left at located r → Pathing f room after d d' w x nest left at located r
 pathing-from {f} {after = after} {d = d} {d' = d'} {w = w} {x = x} {nest = nest} {left = left} {at = at} {located = located} {r = r} e p = subst (λ (z : List ℕ). Pathing f z after d d' w x nest left at located r) e p
 
-pub writing-at : {f : Files} {room after d d' : List ℕ} {v w : Where} {h at : ℕ} {stands : Bool} {r : Drawn} → v ≡ w → Writing f room after d d' v h at stands r → Writing f room after d d' w h at stands r
-writing-at {f} {room} {after} {d} {d'} {h = h} {at = at} {stands = stands} {r = r} e p = subst (λ (z : Where). Writing f room after d d' z h at stands r) e p
+pub writing-at : {f : Files} {room after d d' : List ℕ} {v w : Where} {h at : ℕ} {r : Drawn} → v ≡ w → Writing f room after d d' v h at r → Writing f room after d d' w h at r
+writing-at {f} {room} {after} {d} {d'} {h = h} {at = at} {r = r} e p = subst (λ (z : Where). Writing f room after d d' z h at r) e p
 
 -- a call's promise on the remaining part of a buffer, which is lent to it, is one on the buffer
-pub writing-lent : {f : Files} {room after d p' : List ℕ} {w : Where} {h i m : ℕ} {stands : Bool} {a r : Drawn} → Cuts m (length d) i → r ≡ behind i a → Writing f room after (mid_of i (length d - i) d) p' w h (m - i) stands a → Writing f room after d (put_mid i (length d - i) d p') w h m stands r
-writing-lent k e p ds us o c bs g S y s z = let x = p ds us o c bs g S y s z in record { kept = x.kept; done = draws-lent k e x.done }
+pub writing-lent : {f : Files} {room after d p' : List ℕ} {w : Where} {h i m : ℕ} {a r : Drawn} → Cuts m (length d) i → r ≡ behind i a → Writing f room after (mid_of i (length d - i) d) p' w h (m - i) a → Writing f room after d (put_mid i (length d - i) d p') w h m r
+writing-lent k e p ds us o c bs g S y z = let x = p ds us o c bs g S y z in record { kept = x.kept; done = draws-lent k e x.done }
 
 pub pathing-lent : {f : Files} {room after d p' : List ℕ} {w : Where} {x : Spot} {nest left i m : ℕ} {located : Bool} {a r : Drawn} → Cuts m (length d) i → r ≡ behind i a → Pathing f room after (mid_of i (length d - i) d) p' w x nest left (m - i) located a → Pathing f room after d (put_mid i (length d - i) d p') w x nest left m located r
 pathing-lent k e p ds us o c bs a dc bs' path v B n t y z loc = let x = p ds us o c bs a dc bs' path v B n t y z loc in record { kept = x.kept; done = rest-lent k e x.done }
@@ -165,14 +164,14 @@ module _ {f : Files} {room : List ℕ} {w : Where} {x : Spot} {left at : ℕ} {d
       record { kept = keeps_same room; done = drawn-as u y p })
 
   -- a goal that implies an atom: the path ends, and the goal's strip is behind it
-  pub body-ends : {after d1 d2 : List ℕ} {v : Where} {m : ℕ} (nest : ℕ) → Puts at (octets ")") d d1 m → v ≡ body_at w x 6 → Writing f room after d1 d2 v left m false r → PathingAs W.Imp f room after d d2 w x nest left at false r
+  pub body-ends : {after d1 d2 : List ℕ} {v : Where} {m : ℕ} (nest : ℕ) → Puts at (octets ")") d d1 m → v ≡ body_at w x 6 → Writing f room after d1 d2 v left m r → PathingAs W.Imp f room after d d2 w x nest left at false r
   body-ends {after} {d1} {d2} {v} {m} nest p i body ds us o c bs a dc bs' path e B h =
       let (g, b, n) = clause-is dc h in
       subst (Claim f room after d d2 ds us w x (suc nest) left at r o c bs a bs' path e B false) (sym n)
       (λ l t k z loc.
       let (u, v) = way-imp (listed us) o bs' (spec.serves (listed us) left o c bs a) path e g b k in
       let (X, y, q) = dressed-some some (first (listed us) left o c bs' g) B (ap (ended (λ g bs''. first (listed us) left o c bs'' g)) {x = End.at_imp g b bs'} {y = e} (sym v) ∙ z) in
-      let m = writing-at i body ds us o c bs' g X (ready-body t 6 g (first_part (octets "imp") heads.1.1.1.1 t.framed.stands) (omega arith) (both_of (goal_ok (length bs') g) (atom_ok (length bs') b) t.scoped).0) (λ s. absurd (false≢true s)) y in
+      let m = writing-at i body ds us o c bs' g X (ready-body t 6 g (first_part (octets "imp") heads.1.1.1.1 t.framed.stands) (omega arith) (both_of (goal_ok (length bs') g) (atom_ok (length bs') b) t.scoped).0) y in
       record {
         kept = keeps-less room after (omega arith) (omega (arith, t.fresh, t.ready.enough.bindings, t.framed.shallow)) m.kept;
         done = drawn-as u q (rest-body p m.done);
@@ -231,10 +230,9 @@ module _ {f : Files} {room : List ℕ} {w : Where} {x : Spot} {left at : ℕ} {d
       })
 
 -- what is claimed of a goal
-abbrev pub GoalClaim : Files → List ℕ → List ℕ → List ℕ → List ℕ → List (Clause Plain) → List Term → Where → ℕ → ℕ → Bool → Drawn → List Plain → Hand Plain → Bindings → Strip → Goal Plain → Type 0
-GoalClaim f room after d d' ds us w h at stands r o c bs S g =
+abbrev pub GoalClaim : Files → List ℕ → List ℕ → List ℕ → List ℕ → List (Clause Plain) → List Term → Where → ℕ → ℕ → Drawn → List Plain → Hand Plain → Bindings → Strip → Goal Plain → Type 0
+GoalClaim f room after d d' ds us w h at r o c bs S g =
     Ready f room ds us w h o c bs g →
-    (stands ≡ true → Left f room ds us w h o c bs g) →
     first (listed us) h o c bs g ≡ some S →
     Did (Stock f ds us w.supposed c) w.supposed w.top room after (Draws at S d d' r)
 
@@ -269,21 +267,21 @@ use-whole {at} {d = d} {d5 = d5} {r = r} S k path B e low head number open' rest
 -- the use of the first clause that serves an atom
 module _ {f : Files} {room mid : List ℕ} {w : Where} {left at : ℕ} {d : List ℕ} {r : Drawn} (k : ℕ) (chosen : FirstClause f room mid w left k) (long : length mid ≡ length room) where
   -- it is at hand
-  pub use-none : {after d' : List ℕ} {q : Chosen} → Opened mid after k w.supposed w.top q → q ≡ C.Nothing → WritingAs W.Atom f room after d d' w left at false r
+  pub use-none : {after d' : List ℕ} {q : Chosen} → Opened mid after k w.supposed w.top q → q ≡ C.Nothing → WritingAs W.Atom f room after d d' w left at r
   use-none {after} {d'} p e ds us o c bs g S h =
       let (a, n) = goal-is g h in
-      subst (GoalClaim f room after d d' ds us w (suc left) at false r o c bs S) (sym n)
-      (λ t s u.
+      subst (GoalClaim f room after d d' ds us w (suc left) at r o c bs S) (sym n)
+      (λ t u.
       let (k', x, ch, m) = use-chosen us left o c bs a S u in
       let z = chosen ds us o c bs a k' t ch in
       let (gone, same) = opened-none (ready-kept z.kept long t) k (subst (Opened mid after k w.supposed w.top) e p) in
       nope (sym gone ∙ ap (get_elem? c) z.done ∙ m))
 
-  pub use-drawn : {now after d1 d2 d3 d4 d5 : List ℕ} {q : Chosen} {y : Spot} {l m n : ℕ} {located : Bool} {s : Drawn} → LocatingAt f room mid w left k → Opened mid now k w.supposed w.top q → q ≡ C.Clause y → PlainAt f y located → Puts at (octets "(3:use") d d1 l → Puts l (numeral k) d1 d2 m → Puts m (octets "(") d2 d3 n → Pathing f now after d3 d4 w y 64 left n located s → Closes s d4 d5 r → WritingAs W.Atom f room after d d5 w left at false r
+  pub use-drawn : {now after d1 d2 d3 d4 d5 : List ℕ} {q : Chosen} {y : Spot} {l m n : ℕ} {located : Bool} {s : Drawn} → LocatingAt f room mid w left k → Opened mid now k w.supposed w.top q → q ≡ C.Clause y → PlainAt f y located → Puts at (octets "(3:use") d d1 l → Puts l (numeral k) d1 d2 m → Puts m (octets "(") d2 d3 n → Pathing f now after d3 d4 w y 64 left n located s → Closes s d4 d5 r → WritingAs W.Atom f room after d d5 w left at r
   use-drawn {now} {after} {d5 = d5} {y = y₀} left' p e plain head number path m close ds us o c bs g S h =
       let (a, n) = goal-is g h in
-      subst (GoalClaim f room after d d5 ds us w (suc left) at false r o c bs S) (sym n)
-      (λ t s u.
+      subst (GoalClaim f room after d d5 ds us w (suc left) at r o c bs S) (sym n)
+      (λ t u.
       let (k', x', ch, there) = use-chosen us left o c bs a S u in
       let z = chosen ds us o c bs a k' t ch in
       let x = opened-clause (ready-kept z.kept long t) k (subst (Opened mid now k w.supposed w.top) e p) in

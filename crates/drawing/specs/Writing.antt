@@ -20,13 +20,10 @@ use Rattle.proving.specs.Stock.{Stock, Keeps}
 use Rattle.proving.specs.Proving.{Ready, Taken, proves_with, passes_with}
 use Rattle.proving.specs.Parts.{is_plain, quantifiers}
 use Rattle.proving.specs.First.{PathIn}
-use Rattle.proving.specs.Filling.{LocatingAt}
-use Rattle.keys.specs.Keys.{PredicateKeyAt, AtomKeyAt}
 use Rattle.table.specs.Slots.{numbers_of}
 use Rattle.heads.specs.Heads.{goal_word, clause_word}
 use Rattle.drawing.specs.Chosen.{candidate_from, clause_from, way}
 use Rattle.drawing.specs.Drawn.{Draws, DrawsRest, ended}
-use Rattle.drawing.specs.Left.{Left}
 use Rattle.drawing.specs.declared.Drawn.{Drawn}
 
 -- something drawn or chosen, and that what is relied on is kept
@@ -34,22 +31,20 @@ pub record Did (right : List ℕ → Type 0) (supposed top : ℕ) (room after : 
   pub kept : Keeps right supposed top room after
   pub done : D
 
--- the first strip of a goal. Where `stands`, what the search has left is in the room
-abbrev pub Writing : Files → List ℕ → List ℕ → List ℕ → List ℕ → Where → ℕ → ℕ → Bool → Drawn → Type 0
-Writing f room after d d' w height at stands r =
+-- the first strip of a goal
+abbrev pub Writing : Files → List ℕ → List ℕ → List ℕ → List ℕ → Where → ℕ → ℕ → Drawn → Type 0
+Writing f room after d d' w height at r =
     (ds : List (Clause Plain)) (us : List Term) (o : List Plain) (c : Hand Plain) (bs : Bindings) (g : Goal Plain) (S : Strip) →
     Ready f room ds us w height o c bs g →
-    (stands ≡ true → Left f room ds us w height o c bs g) →
     first (listed us) height o c bs g ≡ some S →
     Did (Stock f ds us w.supposed c) w.supposed w.top room after (Draws at S d d' r)
 
 -- the same of a goal with a word, where so much is left for its parts
-abbrev pub WritingAs : Word → Files → List ℕ → List ℕ → List ℕ → List ℕ → Where → ℕ → ℕ → Bool → Drawn → Type 0
-WritingAs word f room after d d' w left at stands r =
+abbrev pub WritingAs : Word → Files → List ℕ → List ℕ → List ℕ → List ℕ → Where → ℕ → ℕ → Drawn → Type 0
+WritingAs word f room after d d' w left at r =
     (ds : List (Clause Plain)) (us : List Term) (o : List Plain) (c : Hand Plain) (bs : Bindings) (g : Goal Plain) (S : Strip) →
     goal_word g ≡ word →
     Ready f room ds us w (suc left) o c bs g →
-    (stands ≡ true → Left f room ds us w (suc left) o c bs g) →
     first (listed us) (suc left) o c bs g ≡ some S →
     Did (Stock f ds us w.supposed c) w.supposed w.top room after (Draws at S d d' r)
 
@@ -76,22 +71,13 @@ PathingAs word f room after d d' w x nest left at located r =
     (located ≡ true → PathIn room (x.base + x.count) path) →
     Did (Stock f ds us w.supposed c) w.supposed (x.base + x.count) room after (DrawsRest at path B d d' r)
 
--- the first candidate for a `some`; the numbers of its whole chain stand in the room then
+-- the first candidate for a `some`
 abbrev pub FirstWith : Files → List ℕ → List ℕ → Where → ℕ → ℕ → Type 0
 FirstWith f room after w left r =
     (ds : List (Clause Plain)) (us : List Term) (o : List Plain) (c : Hand Plain) (bs : Bindings) (q : Plain) (g : Goal Plain) (i : ℕ) →
     Ready f room ds us w (suc left) o c bs (Goal.some q g) →
     candidate_from (listed us) o q (proves_with us left o c bs g) 0 ≡ some i →
-    Did (Stock f ds us w.supposed c) w.supposed w.top room after ((r ≡ i) × Left f after ds us w (suc left) o c bs (Goal.some q g))
-
--- the same, where they may stand there already
-abbrev pub FirstLeft : Files → List ℕ → List ℕ → Where → ℕ → Bool → ℕ → Type 0
-FirstLeft f room after w left stands r =
-    (ds : List (Clause Plain)) (us : List Term) (o : List Plain) (c : Hand Plain) (bs : Bindings) (q : Plain) (g : Goal Plain) (i : ℕ) →
-    Ready f room ds us w (suc left) o c bs (Goal.some q g) →
-    (stands ≡ true → Left f room ds us w (suc left) o c bs (Goal.some q g)) →
-    candidate_from (listed us) o q (proves_with us left o c bs g) 0 ≡ some i →
-    Did (Stock f ds us w.supposed c) w.supposed w.top room after ((r ≡ i) × Left f after ds us w (suc left) o c bs (Goal.some q g))
+    Did (Stock f ds us w.supposed c) w.supposed w.top room after (r ≡ i)
 
 -- the first clause for an atom
 abbrev pub FirstClause : Files → List ℕ → List ℕ → Where → ℕ → ℕ → Type 0
@@ -100,12 +86,6 @@ FirstClause f room after w left r =
     Ready f room ds us w (suc left) o c bs (Goal.atom a) →
     clause_from (listed us) o c (serves (listed us) left o c bs a) 0 ≡ some k →
     Did (Stock f ds us w.supposed c) w.supposed w.top room after (r ≡ k)
-
--- the same where the numbers of the atom and of its predicate are given, and the numbers of the path that a search leaves
-abbrev pub SearchClause : Files → List ℕ → List ℕ → Where → ℕ → ℕ → ℕ → ℕ → Type 0
-SearchClause f room after w predicate key left r =
-    PredicateKeyAt f w.goal predicate → AtomKeyAt f room w.goal key →
-    FirstClause f room after w left r × LocatingAt f room after w left r
 
 -- whether a slot of the table has as many words for numbers as clause k has quantifiers around it
 abbrev pub HasNumbers : Files → List ℕ → Where → ℕ → ℕ → Bool → Type 0

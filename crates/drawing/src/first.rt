@@ -1,21 +1,21 @@
 // The first option that has a proof, by number: a candidate for a `some`, a clause for an atom, a candidate on the way into a clause (document 01, "Which strip the search writes").
-// Each is asked of crate provable in order, and none after the first that does; where a search has left the numbers of a path or of a chain of `some` in the room they are read there, and a clause that the table has kept for an atom is not asked for again.
+// Each is asked of crate provable in order, and none after the first that does; where a search has left the numbers of a path in the room they are read there, and a clause that the table has kept for an atom is not asked for again.
 ghost use Rattle.room.specs.Where.{files_of};
 ghost use Rattle.std.specs.Prelude.{◌≡◌};
 ghost use Rattle.proving.specs.First.{number_of};
 ghost use Rattle.proving.specs.Filling.{LocatingAt};
-ghost use Rattle.drawing.specs.Writing.{FirstWith, FirstLeft, FirstClause, SearchClause, HasNumbers, FirstThrough, NumberThrough};
+ghost use Rattle.drawing.specs.Writing.{FirstWith, FirstClause, HasNumbers, FirstThrough, NumberThrough};
 
 use harrop::Binding;
-use keys::{both_keys, next_clause};
+use keys::both_keys;
 use places::plus;
 use provable::{find_clause, prove_some, through_with};
-use proving::{Chosen, at_hand, candidates, clauses, parts_of};
+use proving::{Chosen, at_hand, candidates, parts_of};
 use room::{Spot, Where, variable};
 use table::{chosen, numbers, slot_for, take};
 
-// The first candidate with which the part of a `some` has a proof; the numbers of the whole chain of it are left on top of the stack.
-fn first_with<'a>(
+// The first candidate with which the part of a `some` has a proof.
+pub fn first_with<'a>(
     rules: &'a [u8],
     goal: &'a [u8],
     terms: &'a [u8],
@@ -25,28 +25,10 @@ fn first_with<'a>(
 ) -> u32
     ensures { FirstWith (files_of rules.now goal.now terms.now) room.old room.new w left result }
 {
-    if !prove_some(&*rules, &*goal, &*terms, room, w, left) {
+    if !prove_some(rules, goal, terms, room, w, left) {
         return 0;
     }
     number(variable(room, w.top, 1, 0))
-}
-
-// The same, where they may stand there already.
-pub fn first_left<'a>(
-    rules: &'a [u8],
-    goal: &'a [u8],
-    terms: &'a [u8],
-    room: &mut [u32],
-    w: Where,
-    left: usize,
-    stands: bool,
-) -> u32
-    ensures { FirstLeft (files_of rules.now goal.now terms.now) room.old room.new w left stands result }
-{
-    if stands {
-        return number(variable(room, w.top, 1, 0));
-    }
-    first_with(&*rules, &*goal, &*terms, room, w, left)
 }
 
 // The first clause at hand that serves an atom: the one that the table has kept for it at this very height, or the one that is found. If no `and` is on the way to its head, the numbers of the first path through it are left behind its frame.
@@ -60,54 +42,18 @@ pub fn first_clause<'a>(
 ) -> usize
     ensures { FirstClause (files_of rules.now goal.now terms.now) room.old room.new w left result × LocatingAt (files_of rules.now goal.now terms.now) room.old room.new w left result }
 {
-    let of = both_keys(&*rules, &*goal, &*terms, room, w.goal);
+    let of = both_keys(rules, goal, terms, room, w.goal);
     let at = slot_for(room, (of.key / 2) as usize);
-    let k = chosen(&*rules, &*goal, &*terms, room, w, plus(left, 1), at);
+    let k = chosen(rules, goal, terms, room, w, plus(left, 1), at);
     if k == 0 {
-        return search_clause(
-            &*rules,
-            &*goal,
-            &*terms,
-            room,
-            w,
-            of.predicate,
-            of.key,
-            left,
-        );
+        return find_clause(rules, goal, terms, room, w, of.predicate, of.key, left);
     }
     let clause = k - 1;
-    if !has_numbers(&*rules, &*goal, &*terms, room, w, at, clause) {
-        return search_clause(
-            &*rules,
-            &*goal,
-            &*terms,
-            room,
-            w,
-            of.predicate,
-            of.key,
-            left,
-        );
+    if !has_numbers(rules, goal, terms, room, w, at, clause) {
+        return find_clause(rules, goal, terms, room, w, of.predicate, of.key, left);
     }
     take(room, at, w.top);
     clause
-}
-
-// The same by the clauses at hand alone, from the first that may serve the atom by its number.
-fn search_clause<'a>(
-    rules: &'a [u8],
-    goal: &'a [u8],
-    terms: &'a [u8],
-    room: &mut [u32],
-    w: Where,
-    predicate: u32,
-    key: u32,
-    left: usize,
-) -> usize
-    ensures { SearchClause (files_of rules.now goal.now terms.now) room.old room.new w predicate key left result }
-{
-    let n = clauses(room, w.supposed);
-    let k = next_clause(room, predicate, key, 0, n);
-    find_clause(&*rules, &*goal, &*terms, room, w, predicate, key, k, left)
 }
 
 // Whether a slot has room for as many numbers as clause k has quantifiers around it.
@@ -122,11 +68,11 @@ fn has_numbers<'a>(
 ) -> bool
     ensures { HasNumbers (files_of rules.now goal.now terms.now) room.now w at k result }
 {
-    let Chosen::Clause(x) = at_hand(&*room, k, w.supposed) else {
+    let Chosen::Clause(x) = at_hand(room, k, w.supposed) else {
         return false;
     };
-    let p = parts_of(&*rules, &*goal, &*terms, x, 0, 64);
-    p.own <= numbers(&*room, at)
+    let p = parts_of(rules, goal, terms, x, 0, 64);
+    p.own <= numbers(room, at)
 }
 
 // The first candidate with which a path through the clause of an `all` ends well.
@@ -145,7 +91,7 @@ fn first_through<'a>(
     let n = candidates(room);
     let mut i: u32 = 0;
     while i < n {
-        if through_with(&*rules, &*goal, &*terms, room, w, x, i, nest, left) {
+        if through_with(rules, goal, terms, room, w, x, i, nest, left) {
             return i;
         }
         i += 1;
@@ -180,5 +126,5 @@ pub fn number_through<'a>(
     if located {
         return number(variable(room, x.base, plus(x.count, 1), 0));
     }
-    first_through(&*rules, &*goal, &*terms, room, w, x, nest, left)
+    first_through(rules, goal, terms, room, w, x, nest, left)
 }

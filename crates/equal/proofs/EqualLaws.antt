@@ -21,7 +21,7 @@ use Rattle.sexp.specs.declared.skip.After.{After}
 use Rattle.sexp.specs.declared.skip.After.TheVariants as A
 use Rattle.sexp.specs.Decimal.{decimal}
 use Rattle.sexp.specs.Sexp.{Sexp, Sexps, str, list, nil, cons, spell, Stands, StandsAll, nesting, nestings}
-use Rattle.sexp.specs.Past.{Ends, PastAt, SharedPair}
+use Rattle.sexp.specs.Past.{Ends, PastAt}
 use Rattle.sexp.specs.WordsAt.{Shared}
 use Rattle.sexp.proofs.AnswerLaws.{past_next, past-nothing}
 use Rattle.sexp.proofs.SpellLaws.{spell-first}
@@ -40,7 +40,7 @@ use Rattle.room.specs.Table.{CandidatesIn}
 use Rattle.equal.specs.Term.{AtomAt, TermAt, TermsAt, is_written, WrittenAt, Sees, SeesAt, IsParameter, moved_to, AfterText, AfterAt, RestAt, Begins, beginning, BeginsWritten, BeginsAt, SameTerms, SameRest, SameAtoms}
 use Rattle.room.proofs.FileLaws.{source-again, spot-alike}
 use Rattle.room.proofs.NestLaws.{term-nests}
-use Rattle.equal.proofs.TermLaws.{part-stands, all-further, term_word, term_text, term_rest, term-word, term-text, term-rest, atom-text, atom-rest, text-once, decimal-same, names-differ, written_same, words-differ, texts-differ, rest-less, rest-shallow, rest_ok, bare-stays}
+use Rattle.equal.proofs.TermLaws.{part-stands, all-further, term_word, term_text, term_rest, term-word, term-text, term-rest, atom-text, atom-rest, text-once, decimal-same, names-differ, written_same, words-differ, texts-differ, rest-less, rest-shallow, rest_ok}
 
 -- a term is known from how it is written
 written_once : (t u : Term) → term_sexp t ≡ term_sexp u → t ≡ u
@@ -131,22 +131,6 @@ module _ (rules goal terms : List ℕ) where
       (sym U.means
       ∙ ap (replaced cs (bindings_at room x)) same
       ∙ ap (λ (z : Spot). replaced cs (bindings_at room z) v) e
-      ∙ W.means)
-
-  -- and so are two that are the same list of two strings: no variable is in it
-  pub heads-pair : (x y : Spot) {s t : List ℕ} → s ≡ drop x.at (file x) → t ≡ drop y.at (file y) → SharedPair s 0 t 0 → BeginsWritten rules goal terms x y Same
-  heads-pair x y p q h room cs u w U W =
-      let t = U.term in
-      let v = W.term in
-      let a = stands-once h.here (subst (λ (l : List ℕ). Stands l 0 (term_sexp t)) (sym p) (in-part U.here)) in
-      let b = stands-once h.there (subst (λ (l : List ℕ). Stands l 0 (term_sexp v)) (sym q) (in-part W.here)) in
-      let m : nesting (term_sexp t) ≤ 1 = omega (arith, ap nesting a, h.shallow) in
-      let n : nesting (term_sexp v) ≤ 1 = omega (arith, ap nesting b, h.shallow) in
-      equal-terms-same u w
-      (sym U.means
-      ∙ bare-stays cs (bindings_at room x) t U.plain m
-      ∙ written_once t v (sym a ∙ b)
-      ∙ sym (bare-stays cs (bindings_at room y) v W.plain n)
       ∙ W.means)
 
   module _ (x y : Spot) (room : List ℕ) (cs : List Term) (u w : Term) (U : WrittenAt rules goal terms room cs x u) (W : WrittenAt rules goal terms room cs y w) where

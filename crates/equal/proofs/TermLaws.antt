@@ -21,7 +21,6 @@ use Rattle.sexp.specs.Words.{worth}
 use Rattle.sexp.specs.Sexp.{Sexp, Sexps, str, list, nil, cons, spell, Stands, StandsAll, nesting, nestings}
 use Rattle.sexp.proofs.StandLaws.{members-stand, first-stands, others-stand, stands-once}
 use Rattle.sexp.proofs.WordLaws.{worth-decimal}
-use Rattle.room.proofs.NestLaws.{term-nests}
 use Rattle.equal.specs.Term.{is_written}
 
 -- a part of a file: what stands in it stands in the file
@@ -176,10 +175,3 @@ pub closed-written : (holds : Holds) (t : Term) → term_ok holds 0 t ≡ true �
 closed-written holds (Term.v i) e = let z = ltb-true i 0 e in absurd (omega arith)
 closed-written holds (Term.f g ts) e = refl
 closed-written holds (Term.e k) e = refl
-
--- a written term whose list holds no other, a constant or a parameter, stays too
-pub bare-stays : (cs : List Term) (bs : Bindings) (t : Term) → is_written t ≡ true → nesting (term_sexp t) ≤ 1 → replaced cs bs t ≡ t
-bare-stays cs bs (Term.v i) p d = absurd (false≢true p)
-bare-stays cs bs (Term.f g Terms.nil) p d = refl
-bare-stays cs bs (Term.f g (Terms.cons t ts)) p d = absurd (omega (arith, d, term-nests t))
-bare-stays cs bs (Term.e k) p d = refl

@@ -6,7 +6,7 @@ ghost use Rattle.equal.specs.Term.{candidate_seen, binding_seen, moved_to, begin
 
 use harrop::Binding;
 use room::{Source, Spot, part, source_number, variable, word, word_after};
-use sexp::{After, Value, closes, is_word, number, past, same_pair, same_text};
+use sexp::{After, Value, closes, is_word, number, past, same_text};
 
 // What a term is; if it is a variable, what it stands for: a parameter, or a term written at a spot.
 #[derive(Drop)]
@@ -40,8 +40,8 @@ fn moved(x: Spot, at: usize) -> Spot
 fn candidate(room: &[u32], i: u32) -> Seen
     ensures { result ≡ candidate_seen room.now i }
 {
-    if i < word(&*room, 257) {
-        let at = word_after(&*room, 258, i as usize) as usize;
+    if i < word(room, 257) {
+        let at = word_after(room, 258, i as usize) as usize;
         let x = Spot {
             source: Source::Terms,
             at: at,
@@ -58,7 +58,7 @@ fn meaning(room: &[u32], b: Binding) -> Seen
     ensures { result ≡ binding_seen room.now b }
 {
     match b {
-        Binding::Candidate(i) => candidate(&*room, i),
+        Binding::Candidate(i) => candidate(room, i),
         Binding::Parameter(k) => Seen::Parameter(k),
     }
 }
@@ -68,13 +68,13 @@ fn see<'a>(rules: &'a [u8], goal: &'a [u8], terms: &'a [u8], room: &[u32], x: Sp
     ensures { SeesAt rules.now goal.now terms.now room.now x result }
 {
     let source = x.source;
-    let s = part(&*rules, &*goal, &*terms, source, x.at);
+    let s = part(rules, goal, terms, source, x.at);
     if !is_word(s, 1, b"v") {
         return Seen::Written(x);
     }
     match number(s, 4) {
         Value::Nothing => Seen::Parameter(0),
-        Value::Is(i) => meaning(&*room, variable(&*room, x.base, x.count, i)),
+        Value::Is(i) => meaning(room, variable(room, x.base, x.count, i)),
     }
 }
 
@@ -83,7 +83,7 @@ fn is_parameter<'a>(rules: &'a [u8], goal: &'a [u8], terms: &'a [u8], x: Spot, k
     ensures { IsParameter rules.now goal.now terms.now x k result }
 {
     let source = x.source;
-    let s = part(&*rules, &*goal, &*terms, source, x.at);
+    let s = part(rules, goal, terms, source, x.at);
     if !is_word(s, 1, b"e") {
         return false;
     }
@@ -124,8 +124,8 @@ fn after<'a>(
 {
     let a = x.source;
     let b = y.source;
-    let s = part(&*rules, &*goal, &*terms, a, x.at);
-    let t = part(&*rules, &*goal, &*terms, b, y.at);
+    let s = part(rules, goal, terms, a, x.at);
+    let t = part(rules, goal, terms, b, y.at);
     if !same_text(s, from, t, from) {
         return Begun::Differ;
     }
@@ -135,8 +135,7 @@ fn after<'a>(
     }
 }
 
-// Two terms written at spots: equal at once if the spots are the same, or if the same list of two short strings stands at both, as a constant or a parameter is: they hold no variable here.
-// Else their words and what stands after the words are compared.
+// Two terms written at spots: equal at once if the spots are the same, else their words and what stands after the words are compared.
 fn heads<'a>(rules: &'a [u8], goal: &'a [u8], terms: &'a [u8], x: Spot, y: Spot) -> Begun
     ensures { BeginsWritten rules.now goal.now terms.now x y result }
 {
@@ -145,15 +144,12 @@ fn heads<'a>(rules: &'a [u8], goal: &'a [u8], terms: &'a [u8], x: Spot, y: Spot)
     }
     let a = x.source;
     let b = y.source;
-    let s = part(&*rules, &*goal, &*terms, a, x.at);
-    let t = part(&*rules, &*goal, &*terms, b, y.at);
-    if same_pair(s, 0, t, 0) {
-        return Begun::Same;
-    }
+    let s = part(rules, goal, terms, a, x.at);
+    let t = part(rules, goal, terms, b, y.at);
     if !same_text(s, 1, t, 1) {
         return Begun::Differ;
     }
-    after(&*rules, &*goal, &*terms, x, y, 4)
+    after(rules, goal, terms, x, y, 4)
 }
 
 fn told(same: bool) -> Begun
@@ -173,16 +169,16 @@ fn begin<'a>(
 ) -> Begun
     ensures { BeginsAt rules.now goal.now terms.now room.now x y result }
 {
-    let one = see(&*rules, &*goal, &*terms, &*room, x);
-    let two = see(&*rules, &*goal, &*terms, &*room, y);
+    let one = see(rules, goal, terms, room, x);
+    let two = see(rules, goal, terms, room, y);
     match one {
         Seen::Parameter(k) => match two {
             Seen::Parameter(m) => told(k == m),
-            Seen::Written(q) => told(is_parameter(&*rules, &*goal, &*terms, q, k)),
+            Seen::Written(q) => told(is_parameter(rules, goal, terms, q, k)),
         },
         Seen::Written(p) => match two {
-            Seen::Parameter(m) => told(is_parameter(&*rules, &*goal, &*terms, p, m)),
-            Seen::Written(q) => heads(&*rules, &*goal, &*terms, p, q),
+            Seen::Parameter(m) => told(is_parameter(rules, goal, terms, p, m)),
+            Seen::Written(q) => heads(rules, goal, terms, p, q),
         },
     }
 }
@@ -203,10 +199,10 @@ fn same<'a>(
     if nest == 0 {
         return false;
     }
-    match begin(&*rules, &*goal, &*terms, &*room, x, y) {
+    match begin(rules, goal, terms, room, x, y) {
         Begun::Same => true,
         Begun::Differ => false,
-        Begun::Rest(a, b) => same_rest(&*rules, &*goal, &*terms, &*room, a, b, nest - 1),
+        Begun::Rest(a, b) => same_rest(rules, goal, terms, room, a, b, nest - 1),
     }
 }
 
@@ -225,23 +221,15 @@ fn same_rest<'a>(
 {
     let a = x.source;
     let b = y.source;
-    let s = part(&*rules, &*goal, &*terms, a, 0);
-    let t = part(&*rules, &*goal, &*terms, b, 0);
+    let s = part(rules, goal, terms, a, 0);
+    let t = part(rules, goal, terms, b, 0);
     let mut p = x.at;
     let mut q = y.at;
     while !closes(s, p) {
         if closes(t, q) {
             return false;
         }
-        if !same(
-            &*rules,
-            &*goal,
-            &*terms,
-            &*room,
-            moved(x, p),
-            moved(y, q),
-            nest,
-        ) {
+        if !same(rules, goal, terms, room, moved(x, p), moved(y, q), nest) {
             return false;
         }
         let After::Next(m) = past(s, p, 64) else {
@@ -267,10 +255,10 @@ pub fn same_atoms<'a>(
 ) -> bool
     ensures { SameAtoms rules.now goal.now terms.now room.now x y result }
 {
-    match after(&*rules, &*goal, &*terms, x, y, 7) {
+    match after(rules, goal, terms, x, y, 7) {
         Begun::Same => true,
         Begun::Differ => false,
-        Begun::Rest(a, b) => same_rest(&*rules, &*goal, &*terms, &*room, a, b, 128),
+        Begun::Rest(a, b) => same_rest(rules, goal, terms, room, a, b, 128),
     }
 }
 
@@ -286,5 +274,5 @@ pub fn same_terms<'a>(
 ) -> bool
     ensures { SameTerms rules.now goal.now terms.now room.now x y nest result }
 {
-    same(&*rules, &*goal, &*terms, &*room, x, y, nest)
+    same(rules, goal, terms, room, x, y, nest)
 }

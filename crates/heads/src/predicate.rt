@@ -15,36 +15,36 @@ fn same_number(s: &[u8], t: &[u8], i: usize, j: usize) -> bool
 {
     let mut p = i;
     let mut q = j;
-    while !closes(&*s, p) {
-        if closes(&*t, q) {
+    while !closes(s, p) {
+        if closes(t, q) {
             return false;
         }
-        let After::Next(m) = past(&*s, p, 64) else {
+        let After::Next(m) = past(s, p, 64) else {
             return false;
         };
-        let After::Next(n) = past(&*t, q, 64) else {
+        let After::Next(n) = past(t, q, 64) else {
             return false;
         };
         p = m;
         q = n;
     }
-    closes(&*t, q)
+    closes(t, q)
 }
 
 // Whether the atoms that two parts of files start with have the same name and as many arguments.
 fn same_predicate(s: &[u8], t: &[u8]) -> bool
     ensures { SamePredicate s.now t.now result }
 {
-    if !same_text(&*s, 7, &*t, 7) {
+    if !same_text(s, 7, t, 7) {
         return false;
     }
-    let After::Next(p) = past(&*s, 7, 0) else {
+    let After::Next(p) = past(s, 7, 0) else {
         return false;
     };
-    let After::Next(q) = past(&*t, 7, 0) else {
+    let After::Next(q) = past(t, 7, 0) else {
         return false;
     };
-    same_number(&*s, &*t, p, q)
+    same_number(s, t, p, q)
 }
 
 // The same of the atoms at two spots.
@@ -53,8 +53,8 @@ fn same_there<'a>(rules: &'a [u8], goal: &'a [u8], terms: &'a [u8], x: Spot, y: 
 {
     let a = x.source;
     let b = y.source;
-    let s = part(&*rules, &*goal, &*terms, a, x.at);
-    let t = part(&*rules, &*goal, &*terms, b, y.at);
+    let s = part(rules, goal, terms, a, x.at);
+    let t = part(rules, goal, terms, b, y.at);
     same_predicate(s, t)
 }
 
@@ -73,11 +73,11 @@ pub fn has_head<'a>(
     if nest == 0 {
         return false;
     }
-    match word_there(&*rules, &*goal, &*terms, x) {
-        Word::Atom => same_there(&*rules, &*goal, &*terms, x, y),
-        Word::Imp => behind_imp(&*rules, &*goal, &*terms, x, y),
-        Word::And => has_either(&*rules, &*goal, &*terms, x, y, nest - 1),
-        Word::All => has_head(&*rules, &*goal, &*terms, further(x, 6), y, nest - 1),
+    match word_there(rules, goal, terms, x) {
+        Word::Atom => same_there(rules, goal, terms, x, y),
+        Word::Imp => behind_imp(rules, goal, terms, x, y),
+        Word::And => has_either(rules, goal, terms, x, y, nest - 1),
+        Word::All => has_head(rules, goal, terms, further(x, 6), y, nest - 1),
         _ => false,
     }
 }
@@ -86,10 +86,10 @@ pub fn has_head<'a>(
 fn behind_imp<'a>(rules: &'a [u8], goal: &'a [u8], terms: &'a [u8], x: Spot, y: Spot) -> bool
     ensures { (nest : ℕ) → HasHeadAs W.Imp (files_of rules.now goal.now terms.now) x y nest result }
 {
-    let After::Next(n) = past_part(&*rules, &*goal, &*terms, x, 6) else {
+    let After::Next(n) = past_part(rules, goal, terms, x, 6) else {
         return false;
     };
-    same_there(&*rules, &*goal, &*terms, further(x, n), y)
+    same_there(rules, goal, terms, further(x, n), y)
 }
 
 // The heads of both clauses of an `and`.
@@ -104,11 +104,11 @@ fn has_either<'a>(
 ) -> bool
     ensures { HasHeadAs W.And (files_of rules.now goal.now terms.now) x y nest result }
 {
-    let After::Next(n) = past_part(&*rules, &*goal, &*terms, x, 6) else {
+    let After::Next(n) = past_part(rules, goal, terms, x, 6) else {
         return false;
     };
-    if has_head(&*rules, &*goal, &*terms, further(x, 6), y, nest) {
+    if has_head(rules, goal, terms, further(x, 6), y, nest) {
         return true;
     }
-    has_head(&*rules, &*goal, &*terms, further(x, n), y, nest)
+    has_head(rules, goal, terms, further(x, n), y, nest)
 }

@@ -18,12 +18,9 @@ use Rattle.sexp.specs.Sexp.{Sexp, Sexps, str, list, nil, cons, spell, spells, St
 use Rattle.sexp.specs.declared.words.Value.{Value}
 use Rattle.sexp.specs.declared.words.Value.TheVariants as Val
 use Rattle.sexp.specs.WordsAt.{Numeral, NumberAt}
-use Rattle.sexp.specs.Variable.{ShortVariable}
-use Rattle.sexp.proofs.AnswerLaws.{past_next, past-nothing}
 use Rattle.sexp.proofs.DecimalLaws.{onto-small}
 use Rattle.sexp.proofs.FoundLaws.{ends-others}
 use Rattle.sexp.proofs.OntoLaws.{spell-some}
-use Rattle.sexp.proofs.SkipLaws.{past-flat, pair-past}
 use Rattle.sexp.proofs.StandLaws.{byte_inside, stands-inside, first-stands, none-closes, closes-none, opens-list, list-stands, more-stand, none-stand, list_length, cons-length}
 use Rattle.sexp.proofs.WordsAtLaws.{number_is, numeral-stands}
 use Rattle.packet.specs.File.{most_bytes}
@@ -32,8 +29,8 @@ use Rattle.room.specs.Where.{plus}
 use Rattle.mentions.specs.Mentions.{inside, insides}
 use Rattle.held.specs.declared.variables.Met.{Met}
 use Rattle.held.specs.declared.variables.Met.TheVariants as M
-use Rattle.held.specs.Held.{begins, binds, after_first, asks_first, held_in, held_any, AroundAt, HeldAt, Holding, PastBy, Meets, MeetsVariable, PastVariable, met_by, met_variable}
-use Rattle.held.proofs.VariableLaws.{slice, word-length, or-none, members-at, begins-told, around-insides, around-most, within, without, asks_none, asks-number, held-flat, held-list, held-variable, holding}
+use Rattle.held.specs.Held.{begins, binds, after_first, asks_first, held_in, held_any, AroundAt, HeldAt, Holding, PastBy, Meets, MeetsVariable, PastVariable, met_by}
+use Rattle.held.proofs.VariableLaws.{slice, word-length, or-none, members-at, begins-told, around-insides, around-most, asks_none, asks-within, asks-without, held-list, held-variable, holding}
 
 -- members still to come: whether one of them holds a variable decides, unless one before them does
 pub record HeldRest (s : List ℕ) (depth nest : ℕ) (p : ℕ → Bool) (q d : ℕ) (before whole : Bool) : Type 0 where
@@ -155,20 +152,15 @@ word-there {s} at {w = w} e T y = subst (λ (i : ℕ). Stands s i (str w)) e (to
 
 module _ (s : List ℕ) (at depth nest : ℕ) (p o : ℕ → Bool) where
   -- what is met, by the end that is found
+  pub meets-asked : HeldAt s at depth nest p true → Meets s at depth nest p o M.Asked
+  meets-asked H = holding s at depth nest p true H
+
   pub meets-ended : {r : Met} (a : After) (b : Bool) → r ≡ met_by a b → PastAt s at nest a → HeldAt s at depth nest p false → HeldAt s at depth nest o b → Meets s at depth nest p o r
   meets-ended {r} a b e E H G = subst (Meets s at depth nest p o) (sym e) (go a E)
     where
       go : (a : After) → PastAt s at nest a → Meets s at depth nest p o (met_by a b)
       go (A.Next n) E = record { none = holding s at depth nest p false H; others = holding s at depth nest o b G; ends = E }
       go A.Nothing E = E
-
-  -- no list: it holds no variable
-  module _ {b : Bool} (e : b ≡ eqb (get_or s at 0) 40) (f : b ≡ false) where
-    pub meets-flat : {r : Met} (a : After) → r ≡ met_by a false → PastAt s at nest a → Meets s at depth nest p o r
-    meets-flat a k E = meets-ended a false k E (held-flat s at depth nest p e f) (held-flat s at depth nest o e f)
-
-    pub meets-string : {n : ℕ} → Ends s at 0 n → Meets s at depth nest p o (M.Past false n)
-    meets-string {n} E = meets-flat (A.Next n) refl (past-flat s at nest (A.Next n) (eqb-false (get_or s at 0) 40 (sym e ∙ f)) E)
 
   -- where it is known what is met: whether the expression holds a variable that is asked for
   pub met-asked : (r : Met) → r ≡ M.Asked → Meets s at depth nest p o r → Holding s at depth nest p true
@@ -232,56 +224,33 @@ module _ (s : List ℕ) (at depth nest : ℕ) (p o : ℕ → Bool) where
             let k = spell-some E.expression in
             (omega (arith, E.ends), omega (arith, E.ends))
 
--- what is met at a variable, by whether it is one of the quantifiers' own or is asked for
-module _ (p o : ℕ → Bool) (depth i n : ℕ) where
-  pub number-within : i < depth → M.Past false n ≡ met_variable p o depth i n
-  number-within l = ap₂ (λ (a b : Bool). choose a M.Asked (M.Past b n)) (sym (within depth p i l)) (sym (within depth o i l))
+-- a variable, by its number
+module _ (s : List ℕ) (at depth nest : ℕ) (p o : ℕ → Bool) (small : length s ≤ slice) {j : ℕ} (k : j ≡ plus at 4) (n : Value) (N : NumberAt s j n) where
+  there : NumberAt s (plus at 4) n
+  there = subst (λ (i : ℕ). NumberAt s i n) k N
 
-  module _ (l : depth ≤ i) where
-    pub number-asked : true ≡ p (i - depth) → M.Asked ≡ met_variable p o depth i n
-    number-asked f = ap (λ (a : Bool). choose a M.Asked (M.Past (insides depth o i) n)) (f ∙ sym (without depth p i l))
-
-    pub number_past : (x : Bool) → false ≡ p (i - depth) → x ≡ o (i - depth) → M.Past x n ≡ met_variable p o depth i n
-    number_past x f g = ap₂ (λ (a b : Bool). choose a M.Asked (M.Past b n)) (f ∙ sym (without depth p i l)) (g ∙ sym (without depth o i l))
-
-module _ (s : List ℕ) (at depth nest : ℕ) (p o : ℕ → Bool) (small : length s ≤ slice) where
-  -- a variable whose number and end are known
-  variable-met : {i n : ℕ} {r : Met} → r ≡ met_variable p o depth i n → get_or s at 0 ≡ 40 → Stands s (plus at 1) (str (octets "v")) → Numeral s (plus at 4) i → Ends s at nest n → Meets s at depth nest p o r
-  variable-met {i} {n} e b w N E = subst (Meets s at depth nest p o) (sym e) (go (insides depth p i) refl)
+  pub variable-none : {r : Met} (a : After) → n ≡ Val.Nothing → r ≡ met_by a false → PastAt s at nest a → MeetsVariable s at depth nest p o r
+  variable-none a y e E b z w = meets-ended s at depth nest p o a false e E (none p) (none o)
     where
-      held : (q : ℕ → Bool) (x : Bool) → x ≡ insides depth q i → Holding s at depth nest q x
-      held q x f = holding s at depth nest q x (held-variable s at depth nest q small b w x (asks-number s (plus at 4) depth q x N f))
+      none : (p : ℕ → Bool) → HeldAt s at depth nest p false
+      none p = held-variable s at depth nest p small b w false (asks_none s (plus at 4) depth p y there)
 
-      go : (a : Bool) → insides depth p i ≡ a → Meets s at depth nest p o (choose a M.Asked (M.Past (insides depth o i) n))
-      go true f = held p true (sym f)
-      go false f = record { none = held p false (sym f); others = held o (insides depth o i) refl; ends = E }
-
-  -- one that is known by its eight bytes
-  pub variable-short : {i n : ℕ} {r : Met} → ShortVariable s at i → i < 10 → (nest ≡ 0 → ⊥) → n ≡ plus at 8 → r ≡ met_variable p o depth i n → Meets s at depth nest p o r
-  variable-short {i} {n} h l z k e =
-      let m = h.inside l in
-      variable-met e (h.opens l)
-      (subst (λ (j : ℕ). Stands s j (str (octets "v"))) {x = at + 1} {y = plus at 1} (omega (arith, m, small)) (h.word l))
-      (subst (λ (j : ℕ). Numeral s j i) {x = at + 4} {y = plus at 4} (omega (arith, m, small)) (h.number l))
-      (subst (Ends s at nest) {x = at + 8} {y = n} (omega (arith, m, k, small)) (pair-past s at nest (at + 8) z (h.ends l)))
-
-  -- one that is read: it has a number or none
-  module _ {j : ℕ} (k : j ≡ plus at 4) (v : Value) (N : NumberAt s j v) where
-    there : NumberAt s (plus at 4) v
-    there = subst (λ (i : ℕ). NumberAt s i v) k N
-
-    pub variable-none : {r : Met} (a : After) → v ≡ Val.Nothing → r ≡ met_by a false → PastAt s at nest a → MeetsVariable s at depth nest p o r
-    variable-none a y e E b z w = meets-ended s at depth nest p o a false e E (none p) (none o)
+  module _ {i : ℕ} (y : n ≡ Val.Is i) where
+    pub variable-within : {r : Met} (a : After) → i < depth → r ≡ met_by a false → PastVariable s at nest i a → MeetsVariable s at depth nest p o r
+    variable-within a l e E b z w = meets-ended s at depth nest p o a false e (E b z w (number_is y there)) (none p) (none o)
       where
         none : (p : ℕ → Bool) → HeldAt s at depth nest p false
-        none p = held-variable s at depth nest p small b w false (asks_none s (plus at 4) depth p y there)
+        none p = held-variable s at depth nest p small b w false (asks-within s (plus at 4) depth p y there l)
 
-    module _ {i : ℕ} (y : v ≡ Val.Is i) (a : After) (E : PastVariable s at nest i a) where
-      pub variable-lost : a ≡ A.Nothing → MeetsVariable s at depth nest p o M.Nothing
-      variable-lost f b z w = past-nothing f (E b z w (number_is y there))
+    module _ (l : depth ≤ i) where
+      says : (p : ℕ → Bool) (x : Bool) → x ≡ p (i - depth) → get_or s at 0 ≡ 40 → Stands s (plus at 1) (str (octets "v")) → HeldAt s at depth nest p x
+      says p x f b w = held-variable s at depth nest p small b w x (asks-without s (plus at 4) depth p x y there l f)
 
-      pub variable-found : {n : ℕ} {r : Met} → a ≡ A.Next n → r ≡ met_variable p o depth i n → MeetsVariable s at depth nest p o r
-      variable-found f e b z w = let m = number_is y there in variable-met e b w m (past_next f (E b z w m))
+      pub variable-asked : true ≡ p (i - depth) → MeetsVariable s at depth nest p o M.Asked
+      variable-asked f b z w = meets-asked s at depth nest p o (says p true f b w)
+
+      pub variable-past : {r : Met} (a : After) (x : Bool) → false ≡ p (i - depth) → x ≡ o (i - depth) → r ≡ met_by a x → PastVariable s at nest i a → MeetsVariable s at depth nest p o r
+      variable-past a x f g e E b z w = meets-ended s at depth nest p o a x e (E b z w (number_is y there)) (says p false f b w) (says o x g b w)
 
 -- one whose number has one digit is eight bytes long
 digit-length : (i : ℕ) → i < 10 → length (spell (str (decimal i))) ≡ 3

@@ -23,7 +23,7 @@ use Rattle.sexp.specs.Words.{is_number, worth}
 use Rattle.sexp.specs.WordsAt.{Numeral, NumberAt}
 use Rattle.sexp.proofs.StandLaws.{stands-inside, stands-before, stands-once, string-once, list-opens, members-stand, first-stands, others-stand, none-closes, opens-list, no-closing}
 use Rattle.sexp.proofs.WordLaws.{worth-decimal, decimal-is}
-use Rattle.sexp.proofs.WordsAtLaws.{number-nothing}
+use Rattle.sexp.proofs.WordsAtLaws.{number_is, number-nothing}
 use Rattle.packet.specs.Barred.{Holds, term_ok, terms_ok, atom_ok, goal_ok, clause_ok}
 use Rattle.packet.specs.File.{most_bytes}
 use Rattle.packet.specs.Written.{term_sexp, term_sexps, atom_sexp, goal_sexp, clause_sexp}
@@ -119,9 +119,12 @@ module _ (s : List ℕ) (at depth : ℕ) (p : ℕ → Bool) where
       go (cons (hinted t w) xs) h = refl
       go (cons (list ys) xs) h = refl
 
-  pub asks-number : {i : ℕ} (r : Bool) → Numeral s at i → r ≡ insides depth p i → AsksAt s at depth p r
-  asks-number {i} r numeral f xs h = f ∙ go xs h
+  asks-number : {v : Value} {i : ℕ} (r : Bool) → v ≡ Val.Is i → NumberAt s at v → r ≡ insides depth p i → AsksAt s at depth p r
+  asks-number {v} {i} r e n f xs h = f ∙ go xs h
     where
+      numeral : Numeral s at i
+      numeral = number_is e n
+
       go : (xs : Sexps) → StandsAll s at xs → insides depth p i ≡ asks_first (insides depth p) xs
       go nil h = absurd (no-closing numeral.stands (none-closes h))
       go (cons (str w) xs) h =
@@ -129,6 +132,12 @@ module _ (s : List ℕ) (at depth : ℕ) (p : ℕ → Bool) where
           ap₂ (λ (b : Bool) (j : ℕ). b && insides depth p j) (sym numeral.number ∙ ap is_number q) (numeral.says ∙ ap worth q)
       go (cons (hinted t w) xs) h = absurd (hinted-no-string (first-stands h) numeral.stands)
       go (cons (list ys) xs) h = absurd (list-no-string (first-stands h) numeral.stands)
+
+  pub asks-within : {v : Value} {i : ℕ} → v ≡ Val.Is i → NumberAt s at v → i < depth → AsksAt s at depth p false
+  asks-within {i = i} e n l = asks-number false e n (sym (within depth p i l))
+
+  pub asks-without : {v : Value} {i : ℕ} (r : Bool) → v ≡ Val.Is i → NumberAt s at v → depth ≤ i → r ≡ p (i - depth) → AsksAt s at depth p r
+  asks-without {i = i} r e n l f = asks-number r e n (f ∙ sym (without depth p i l))
 
 -- the word of a list
 same-tells : (v w : List ℕ) → Tells (same_name v w) (v ≡ w)

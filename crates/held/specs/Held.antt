@@ -103,7 +103,3 @@ PastVariable s at nest i r = AtVariable s at nest (Numeral s (plus at 4) i → P
 abbrev pub met_by : After → Bool → Met
 met_by (A.Next n) b = M.Past b n
 met_by A.Nothing b = M.Nothing
-
--- what is met at variable i, asked so many quantifiers inside, whose expression ends at n
-abbrev pub met_variable : (ℕ → Bool) → (ℕ → Bool) → ℕ → ℕ → ℕ → Met
-met_variable p o depth i n = choose (insides depth p i) M.Asked (M.Past (insides depth o i) n)

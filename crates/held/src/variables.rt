@@ -3,12 +3,12 @@ ghost use Rattle.std.specs.Prelude.{◌≡◌, true, false, ◌||◌, ℕ};
 ghost use Rattle.harrop.specs.Bindings.{Bindings};
 ghost use Rattle.room.specs.Spot.{bindings_at};
 ghost use Rattle.mentions.specs.Open.{is_unset, is_open, asked};
-ghost use Rattle.held.specs.Held.{AroundAt, Holding, met_by, met_variable, PastVariable, MeetsVariable, Meets};
+ghost use Rattle.held.specs.Held.{AroundAt, Holding, met_by, PastVariable, MeetsVariable, Meets};
 
 use harrop::Binding;
 use places::plus;
 use room::{Spot, variable};
-use sexp::{After, Value, closes, is_word, number, opens, past, short_string, short_variable};
+use sexp::{After, Value, closes, is_word, number, opens, past};
 
 // What is met on the way through an expression.
 #[derive(Drop)]
@@ -36,7 +36,7 @@ pub fn is_open(room: &[u32], x: Spot, own: usize, i: usize) -> bool
     ensures { result ≡ is_open own (bindings_at room.now x) i }
 {
     if i < own {
-        return is_unset(variable(&*room, x.base, x.count, i));
+        return is_unset(variable(room, x.base, x.count, i));
     }
     false
 }
@@ -45,7 +45,7 @@ pub fn is_open(room: &[u32], x: Spot, own: usize, i: usize) -> bool
 fn asks(room: &[u32], x: Spot, own: usize, also: bool, v: usize, i: usize) -> bool
     ensures { result ≡ asked own (bindings_at room.now x) also v i }
 {
-    if is_open(&*room, x, own, i) {
+    if is_open(room, x, own, i) {
         return true;
     }
     also && i == v
@@ -55,10 +55,10 @@ fn asks(room: &[u32], x: Spot, own: usize, also: bool, v: usize, i: usize) -> bo
 fn around(s: &[u8], at: usize, depth: usize) -> usize
     ensures { AroundAt s.now at depth result }
 {
-    if is_word(&*s, plus(at, 1), b"all") {
+    if is_word(s, plus(at, 1), b"all") {
         return plus(depth, 1);
     }
-    if is_word(&*s, plus(at, 1), b"some") {
+    if is_word(s, plus(at, 1), b"some") {
         return plus(depth, 1);
     }
     depth
@@ -79,34 +79,12 @@ fn past_variable(s: &[u8], at: usize, nest: usize, i: usize) -> After
     ensures { PastVariable s.now at nest i result }
 {
     if 9 < i {
-        return past(&*s, at, nest);
+        return past(s, at, nest);
     }
-    if !closes(&*s, plus(at, 7)) {
-        return past(&*s, at, nest);
+    if !closes(s, plus(at, 7)) {
+        return past(s, at, nest);
     }
     After::Next(plus(at, 8))
-}
-
-// What is met at variable i, so many quantifiers inside the expression, by where it ends.
-fn met_variable(
-    room: &[u32],
-    x: Spot,
-    own: usize,
-    also: bool,
-    v: usize,
-    depth: usize,
-    i: usize,
-    end: usize,
-) -> Met
-    ensures { result ≡ met_variable (asked own (bindings_at room.now x) also v) (asked own (bindings_at room.now x) true v) depth i end }
-{
-    if i < depth {
-        return Met::Past(false, end);
-    }
-    if asks(&*room, x, own, also, v, i - depth) {
-        return Met::Asked;
-    }
-    Met::Past(i - depth == v, end)
 }
 
 // The variable at an offset, so many quantifiers inside the expression.
@@ -123,13 +101,16 @@ fn meets_variable(
 ) -> Met
     ensures { MeetsVariable s.now at depth nest (asked own (bindings_at room.now x) also v) (asked own (bindings_at room.now x) true v) result }
 {
-    let Value::Is(i) = number(&*s, plus(at, 4)) else {
-        return ended(past(&*s, at, nest), false);
+    let Value::Is(i) = number(s, plus(at, 4)) else {
+        return ended(past(s, at, nest), false);
     };
-    let After::Next(end) = past_variable(&*s, at, nest, i) else {
-        return Met::Nothing;
-    };
-    met_variable(&*room, x, own, also, v, depth, i, end)
+    if i < depth {
+        return ended(past_variable(s, at, nest, i), false);
+    }
+    if asks(room, x, own, also, v, i - depth) {
+        return Met::Asked;
+    }
+    ended(past_variable(s, at, nest, i), i - depth == v)
 }
 
 // Whether one of two holds.
@@ -139,8 +120,7 @@ fn either(a: bool, b: bool) -> bool
     if a { true } else { b }
 }
 
-// A member of a list: a word or a name holds nothing, and is passed at once. A variable whose number has one digit, as nearly every one has, is known by its
-// eight bytes.
+// A member of a list: a word or a name holds nothing, and is passed at once.
 #[cycle(meets_meets_member)]
 fn meets_member(
     s: &[u8],
@@ -155,21 +135,10 @@ fn meets_member(
 ) -> Met
     ensures { Meets s.now at depth nest (asked own (bindings_at room.now x) also v) (asked own (bindings_at room.now x) true v) result }
 {
-    if !opens(&*s, at) {
-        let n = short_string(&*s, at);
-        if n != 0 {
-            return Met::Past(false, n);
-        }
-        return ended(past(&*s, at, nest), false);
+    if !opens(s, at) {
+        return ended(past(s, at, nest), false);
     }
-    let i = short_variable(&*s, at);
-    if i < 10 {
-        if nest == 0 {
-            return Met::Nothing;
-        }
-        return met_variable(&*room, x, own, also, v, depth, i, plus(at, 8));
-    }
-    meets(&*s, at, depth, nest, &*room, x, own, also, v)
+    meets(s, at, depth, nest, room, x, own, also, v)
 }
 
 // One walk through the expression at an offset, up to the first variable of the frame that is unset, or is variable v if that one is asked for.
@@ -187,20 +156,20 @@ pub fn meets(
 ) -> Met
     ensures { Meets s.now at depth nest (asked own (bindings_at room.now x) also v) (asked own (bindings_at room.now x) true v) result }
 {
-    if !opens(&*s, at) {
-        return ended(past(&*s, at, nest), false);
+    if !opens(s, at) {
+        return ended(past(s, at, nest), false);
     }
     if nest == 0 {
         return Met::Nothing;
     }
-    if is_word(&*s, plus(at, 1), b"v") {
-        return meets_variable(&*s, at, depth, nest, &*room, x, own, also, v);
+    if is_word(s, plus(at, 1), b"v") {
+        return meets_variable(s, at, depth, nest, room, x, own, also, v);
     }
-    let d = around(&*s, at, depth);
+    let d = around(s, at, depth);
     let mut q = plus(at, 1);
     let mut with = false;
-    while !closes(&*s, q) {
-        match meets_member(&*s, q, d, nest - 1, &*room, x, own, also, v) {
+    while !closes(s, q) {
+        match meets_member(s, q, d, nest - 1, room, x, own, also, v) {
             Met::Asked => {
                 return Met::Asked;
             }
@@ -243,7 +212,7 @@ pub fn holds(
     if is_idle(own, also) {
         return false;
     }
-    match meets(&*s, at, depth, nest, &*room, x, own, also, v) {
+    match meets(s, at, depth, nest, room, x, own, also, v) {
         Met::Asked => true,
         Met::Past(_, _) => false,
         Met::Nothing => false,

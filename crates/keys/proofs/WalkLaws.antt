@@ -25,8 +25,7 @@ use Rattle.sexp.specs.declared.skip.After.TheVariants as A
 use Rattle.sexp.specs.Sexp.{str, Stands, StandsAll, nesting, nestings}
 use Rattle.sexp.specs.Past.{PastAt}
 use Rattle.sexp.specs.Strings.{Plain}
-use Rattle.sexp.specs.Variable.{ShortVariable}
-use Rattle.sexp.specs.WordsAt.{Numeral, NumberAt}
+use Rattle.sexp.specs.WordsAt.{NumberAt}
 use Rattle.sexp.proofs.AnswerLaws.{past_next, past-nothing}
 use Rattle.sexp.proofs.FoundLaws.{found_plain, ends-here, ends-others}
 use Rattle.sexp.proofs.NumberLaws.{drop_here}
@@ -41,7 +40,6 @@ use Rattle.start.proofs.HighLaws.{number-some}
 use Rattle.room.proofs.NestLaws.{term-nests}
 use Rattle.equal.proofs.SeeLaws.{number_read, unread, no-f-e, parameter-small}
 use Rattle.equal.proofs.TermLaws.{part-stands, term-word, term-text, term-rest, text-once}
-use Rattle.heads.proofs.HeadLaws.{stands-in-part}
 use Rattle.keys.specs.declared.term.Begun.{Begun}
 use Rattle.keys.specs.declared.term.Begun.TheVariants.{Key, Terms as Rest}
 use Rattle.keys.specs.Key.{mix, more, text_from, text_key, term_key, terms_key}
@@ -71,8 +69,9 @@ variable-lost t room x r {v} e a i h l = absurd (unread (number_read i v h l a) 
 pub parameter-lost : (t : List ℕ) (r : ℕ) {v : Value} → v ≡ Val.Nothing → NumberAt t 4 v → ParameterAt t r
 parameter-lost t r {v} e a i h l = absurd (unread (number_read i v h l a) e)
 
-pub variable-told : (t room : List ℕ) (x : Spot) {v : Value} {k r : ℕ} → v ≡ Val.Is k → NumberAt t 4 v → r ≡ binding_key room (bound_to (bindings_at room x) k) → VariableAt t room x r
-variable-told t room x e a g i h l = g ∙ ap (λ (j : ℕ). binding_key room (bound_to (bindings_at room x) j)) (number-some e a i h l)
+pub variable-told : (t room : List ℕ) (x : Spot) {v : Value} {k r : ℕ} {b : Binding} → v ≡ Val.Is k → NumberAt t 4 v → b ≡ bound_to (bindings_at room x) k → r ≡ binding_key room b → VariableAt t room x r
+variable-told t room x e a f g i h l =
+    g ∙ ap (binding_key room) f ∙ ap (λ (j : ℕ). binding_key room (bound_to (bindings_at room x) j)) (number-some e a i h l)
 
 pub parameter-told : (t : List ℕ) {v : Value} {k m r : ℕ} → v ≡ Val.Is k → NumberAt t 4 v → m ≡ held k → r ≡ mix 5 m → ParameterAt t r
 parameter-told t {m = m} e a f g i h l = let z = number-some e a i h l in g ∙ ap (mix 5) {x = m} {y = i} (omega (arith, f, z, l))
@@ -183,19 +182,6 @@ module _ (s : List ℕ) (at : ℕ) (room : List ℕ) (x : Spot) (nest : ℕ) whe
     key-rest r e z R cs holds u K h o l n =
         let T = begun e cs holds u K h o in
         R cs holds T.ts K T.stands T.ok (omega (arith, T.less)) (omega (arith, T.less)) ∙ sym T.gives
-
--- a variable of one digit, known by its eight bytes: its number is that of what it is bound to, and it ends with them
-module _ (s : List ℕ) (at : ℕ) {i : ℕ} (N : ShortVariable s at i) (l : i < 10) where
-  pub short-key : (room : List ℕ) (x : Spot) (nest : ℕ) {k : ℕ} → k ≡ binding_key room (bound_to (bindings_at room x) i) → TermAtKey s at room x nest k
-  short-key room x nest e =
-      let t = drop at s in
-      let w = stands-in-part s at 1 (N.word l) in
-      let m = N.number l in
-      let n : Numeral t 4 i = record { octets = m.octets; stands = stands-in-part s at 4 m.stands; number = m.number; says = m.says } in
-      key-known s at room x nest {t = t} refl (begins-variable t room x {r = true} w refl (variable-told t room x {v = Val.Is i} refl n e)) refl
-
-  pub short-past : PastAt s at 64 (A.Next (at + 8))
-  short-past = let E = N.ends l in record { expression = E.expression; stands = E.stands; shallow = omega (arith, E.shallow); ends = E.ends }
 
 -- terms still to come, and the number so far
 pub record KeysRest (s room : List ℕ) (cs : List Term) (x : Spot) (nest : ℕ) (holds : Bool) (p k whole : ℕ) : Type 0 where

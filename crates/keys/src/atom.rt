@@ -4,9 +4,9 @@ ghost use Rattle.keys.specs.Walk.{RowAt, TermsAtKey, PredicateAt, AtomAtKey};
 ghost use Rattle.keys.specs.Keys.{AtomKeyAt, PredicateKeyAt};
 
 use crate::mix::{even, mix, odd, text_key};
-use crate::term::{bound_key, key_at, keys_at};
+use crate::term::{key_at, keys_at};
 use room::{Spot, part};
-use sexp::{After, closes, past, short_variable};
+use sexp::{After, closes, past};
 
 // The numbers of an atom: of its predicate and its own.
 #[derive(Drop)]
@@ -15,19 +15,15 @@ pub struct Both {
     pub key: u32,
 }
 
-// A number mixed with 1 for each expression from an offset on, up to the closing parenthesis. A variable of one digit is passed at once: it has eight bytes.
+// A number mixed with 1 for each expression from an offset on, up to the closing parenthesis.
 fn row_key(s: &[u8], at: usize, h: u32) -> u32
     ensures { RowAt s.now at h result }
 {
     let mut p = at;
     let mut k = h;
-    while !closes(&*s, p) {
+    while !closes(s, p) {
         k = mix(k, 1);
-        if short_variable(&*s, p) < 10 {
-            p = p + 8;
-            continue;
-        }
-        let After::Next(n) = past(&*s, p, 64) else {
+        let After::Next(n) = past(s, p, 64) else {
             return 0;
         };
         p = n;
@@ -39,20 +35,20 @@ fn row_key(s: &[u8], at: usize, h: u32) -> u32
 pub(crate) fn predicate_of(t: &[u8]) -> u32
     ensures { PredicateAt t.now result }
 {
-    let After::Next(n) = past(&*t, 7, 0) else {
+    let After::Next(n) = past(t, 7, 0) else {
         return 0;
     };
-    even(row_key(&*t, n, text_key(&*t, 7)))
+    even(row_key(t, n, text_key(t, 7)))
 }
 
 // The number of that atom, its variables bound in the frame of a spot.
 pub(crate) fn atom_of(t: &[u8], room: &[u32], x: Spot) -> u32
     ensures { AtomAtKey t.now room.now x result }
 {
-    let After::Next(n) = past(&*t, 7, 0) else {
+    let After::Next(n) = past(t, 7, 0) else {
         return 0;
     };
-    odd(keys_at(&*t, n, &*room, x, text_key(&*t, 7), 64))
+    odd(keys_at(t, n, room, x, text_key(t, 7), 64))
 }
 
 // The number of the predicate of the atom at a spot.
@@ -60,26 +56,20 @@ pub fn predicate_key<'a>(rules: &'a [u8], goal: &'a [u8], terms: &'a [u8], x: Sp
     ensures { PredicateKeyAt (files_of rules.now goal.now terms.now) x result }
 {
     let source = x.source;
-    predicate_of(part(&*rules, &*goal, &*terms, source, x.at))
+    predicate_of(part(rules, goal, terms, source, x.at))
 }
 
-// Both numbers of a row of arguments, from a number on. Nearly every argument is a variable of one digit: that is looked for first, and known by its eight bytes.
+// Both numbers of a row of arguments, from a number on.
 fn both_at<'a>(s: &'a [u8], at: usize, room: &[u32], x: Spot, h: u32) -> Both
     ensures { RowAt s.now at h result.predicate × TermsAtKey s.now at room.now x h 64 result.key }
 {
     let mut p = at;
     let mut predicate = h;
     let mut key = h;
-    while !closes(&*s, p) {
+    while !closes(s, p) {
         predicate = mix(predicate, 1);
-        let i = short_variable(&*s, p);
-        if i < 10 {
-            key = mix(key, bound_key(&*room, x, i));
-            p = p + 8;
-            continue;
-        }
-        key = mix(key, key_at(&*s, p, &*room, x, 64));
-        let After::Next(n) = past(&*s, p, 64) else {
+        key = mix(key, key_at(s, p, room, x, 64));
+        let After::Next(n) = past(s, p, 64) else {
             return Both {
                 predicate: 0,
                 key: 0,
@@ -94,13 +84,13 @@ fn both_at<'a>(s: &'a [u8], at: usize, room: &[u32], x: Spot, h: u32) -> Both
 fn both_of(t: &[u8], room: &[u32], x: Spot) -> Both
     ensures { PredicateAt t.now result.predicate × AtomAtKey t.now room.now x result.key }
 {
-    let After::Next(n) = past(&*t, 7, 0) else {
+    let After::Next(n) = past(t, 7, 0) else {
         return Both {
             predicate: 0,
             key: 0,
         };
     };
-    let b = both_at(&*t, n, &*room, x, text_key(&*t, 7));
+    let b = both_at(t, n, room, x, text_key(t, 7));
     Both {
         predicate: even(b.predicate),
         key: odd(b.key),
@@ -118,5 +108,5 @@ pub fn both_keys<'a>(
     ensures { PredicateKeyAt (files_of rules.now goal.now terms.now) x result.predicate × AtomKeyAt (files_of rules.now goal.now terms.now) room.now x result.key }
 {
     let source = x.source;
-    both_of(part(&*rules, &*goal, &*terms, source, x.at), &*room, x)
+    both_of(part(rules, goal, terms, source, x.at), room, x)
 }

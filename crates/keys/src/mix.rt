@@ -39,7 +39,7 @@ fn octets_key(w: &[u8]) -> u32
 pub(crate) fn text_key(s: &[u8], at: usize) -> u32
     ensures { TextAt s.now at result }
 {
-    match plain(&*s, at) {
+    match plain(s, at) {
         Octets::Nothing => 0,
         Octets::Span(from, count) => {
             let to = from + count;

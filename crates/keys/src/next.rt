@@ -13,13 +13,13 @@ fn begin(room: &[u32], numbers: u32, links: u32, x: u32, from: u32) -> u32
 {
     let b = chain_of(x);
     if from == 0 {
-        return word(&*room, links as usize + 256 + b);
+        return word(room, links as usize + 256 + b);
     }
     let k = (from - 1) as usize;
-    if chain_of(word(&*room, numbers as usize + k)) == b {
-        return word(&*room, links as usize + k);
+    if chain_of(word(room, numbers as usize + k)) == b {
+        return word(room, links as usize + k);
     }
-    word(&*room, links as usize + 256 + b)
+    word(room, links as usize + 256 + b)
 }
 
 // Whether r is not before one and has a number.
@@ -29,19 +29,19 @@ fn has_number(room: &[u32], numbers: u32, x: u32, from: u32, r: u32) -> bool
     if r < from {
         return false;
     }
-    word(&*room, numbers as usize + r as usize) == x
+    word(room, numbers as usize + r as usize) == x
 }
 
 // The first from one on, of n, that has a number; n if there is none. Where the chains are right each is before the next one.
 fn next_with(room: &[u32], numbers: u32, links: u32, x: u32, from: u32, n: u32) -> u32
     ensures { NextWith numbers links room.now x from n result }
 {
-    let mut r = begin(&*room, numbers, links, x, from);
+    let mut r = begin(room, numbers, links, x, from);
     while r < n {
-        if has_number(&*room, numbers, x, from, r) {
+        if has_number(room, numbers, x, from, r) {
             return r;
         }
-        let next = word(&*room, links as usize + r as usize);
+        let next = word(room, links as usize + r as usize);
         if next <= r {
             return n;
         }
@@ -54,7 +54,7 @@ fn next_with(room: &[u32], numbers: u32, links: u32, x: u32, from: u32, n: u32) 
 pub fn next_candidate(room: &[u32], x: u32, from: u32, n: u32) -> u32
     ensures { NextCandidate room.now x from n result }
 {
-    next_with(&*room, 3456, 4864, x, from, n)
+    next_with(room, 3456, 4864, x, from, n)
 }
 
 // The lesser of two.
@@ -71,12 +71,12 @@ pub fn next_clause(room: &[u32], predicate: u32, key: u32, from: usize, n: usize
     if n <= from {
         return n;
     }
-    let rules = word(&*room, 0);
+    let rules = word(room, 0);
     if rules as usize <= from {
         return from;
     }
     let f = from as u32;
-    let a = next_with(&*room, 3200, 4224, key, f, lesser(rules, n));
-    let b = next_with(&*room, 3200, 4224, predicate, f, a);
-    next_with(&*room, 3200, 4224, 0, f, b) as usize
+    let a = next_with(room, 3200, 4224, key, f, lesser(rules, n));
+    let b = next_with(room, 3200, 4224, predicate, f, a);
+    next_with(room, 3200, 4224, 0, f, b) as usize
 }

@@ -20,7 +20,7 @@ fn has_variable<'a>(s: &'a [u8], at: usize, nest: usize) -> bool
     if nest == 0 {
         return false;
     }
-    let t = from(&*s, at);
+    let t = from(s, at);
     if is_word(t, 1, b"v") {
         return true;
     }
@@ -36,11 +36,11 @@ fn have_variable<'a>(s: &'a [u8], at: usize, nest: usize) -> bool
     ensures { HaveVariable s.now at nest result }
 {
     let mut p = at;
-    while !closes(&*s, p) {
-        if has_variable(&*s, p, nest) {
+    while !closes(s, p) {
+        if has_variable(s, p, nest) {
             return true;
         }
-        let After::Next(n) = past(&*s, p, 64) else {
+        let After::Next(n) = past(s, p, 64) else {
             return false;
         };
         p = n;
@@ -64,23 +64,23 @@ pub(crate) fn nowhere() -> Spot
 fn head_key(t: &[u8], room: &[u32]) -> u32
     ensures { HeadAt t.now result }
 {
-    let After::Next(n) = past(&*t, 7, 0) else {
+    let After::Next(n) = past(t, 7, 0) else {
         return 0;
     };
-    if have_variable(&*t, n, 64) {
-        return predicate_of(&*t);
+    if have_variable(t, n, 64) {
+        return predicate_of(t);
     }
-    atom_of(&*t, &*room, nowhere())
+    atom_of(t, room, nowhere())
 }
 
 // The number of the head of a goal that implies an atom.
 fn behind_imp<'a>(t: &'a [u8], room: &[u32]) -> u32
     ensures { ImpAt t.now result }
 {
-    let After::Next(n) = past(&*t, 6, 64) else {
+    let After::Next(n) = past(t, 6, 64) else {
         return 0;
     };
-    head_key(from(&*t, n), &*room)
+    head_key(from(t, n), room)
 }
 
 // The number of the clause at an offset that nests at most `nest`.
@@ -90,12 +90,12 @@ pub(crate) fn clause_key<'a>(s: &'a [u8], at: usize, room: &[u32], nest: usize) 
     if nest == 0 {
         return 0;
     }
-    let t = from(&*s, at);
+    let t = from(s, at);
     match word_at(t, 1) {
-        Word::Atom => head_key(t, &*room),
-        Word::Imp => behind_imp(t, &*room),
+        Word::Atom => head_key(t, room),
+        Word::Imp => behind_imp(t, room),
         Word::And => 0,
-        Word::All => clause_key(t, 6, &*room, nest - 1),
+        Word::All => clause_key(t, 6, room, nest - 1),
         _ => 0,
     }
 }
@@ -105,6 +105,6 @@ pub fn rule_key<'a>(rules: &'a [u8], goal: &'a [u8], terms: &'a [u8], room: &[u3
     ensures { RuleKeyAt (files_of rules.now goal.now terms.now) x result }
 {
     let source = x.source;
-    let s = part(&*rules, &*goal, &*terms, source, 0);
-    clause_key(s, x.at, &*room, 64)
+    let s = part(rules, goal, terms, source, 0);
+    clause_key(s, x.at, room, 64)
 }

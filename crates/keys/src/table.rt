@@ -30,7 +30,7 @@ fn keep_candidates(terms: &[u8], room: &mut [u32])
     let mut i = 0;
     while i < n {
         let at = word(room, 258 + i) as usize;
-        let k = key_at(&*terms, at, room, nowhere(), 64);
+        let k = key_at(terms, at, room, nowhere(), 64);
         put(room, 3456 + i, k);
         i += 1;
     }
@@ -44,7 +44,7 @@ fn keep_rules(rules: &[u8], room: &mut [u32])
     let mut i = 0;
     while i < n {
         let at = word(room, 1 + i) as usize;
-        let k = clause_key(&*rules, at, room, 64);
+        let k = clause_key(rules, at, room, 64);
         put(room, 3200 + i, k);
         i += 1;
     }
@@ -54,8 +54,8 @@ fn keep_rules(rules: &[u8], room: &mut [u32])
 pub fn fill_keys(rules: &[u8], terms: &[u8], room: &mut [u32])
     ensures { KeysFilled room.old room.new rules.now terms.now }
 {
-    keep_candidates(&*terms, room);
-    keep_rules(&*rules, room);
+    keep_candidates(terms, room);
+    keep_rules(rules, room);
     let n = word(room, 0);
     fill_chains(room, 3200, 4224, n);
     let m = word(room, 257);

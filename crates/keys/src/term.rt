@@ -1,7 +1,5 @@
 // The number of a term under its bindings. A variable takes the number that is kept for the candidate that it is bound to, so candidates are never gone into; what is left of the nesting falls.
 ghost use Rattle.std.specs.Prelude.{◌≡◌, get_or, drop};
-ghost use Rattle.room.specs.Frame.{bound_to};
-ghost use Rattle.room.specs.Spot.{bindings_at};
 ghost use Rattle.room.specs.Where.{files_of};
 ghost use Rattle.keys.specs.Walk.{candidate_key, binding_key, VariableAt, ParameterAt, BeginsAt, TermAtKey, TermsAtKey};
 ghost use Rattle.keys.specs.Keys.{TermKeyAt};
@@ -9,7 +7,7 @@ ghost use Rattle.keys.specs.Keys.{TermKeyAt};
 use crate::mix::{hold, mix, text_key};
 use harrop::Binding;
 use room::{Source, Spot, part, variable};
-use sexp::{After, Value, closes, is_word, number, past, short_variable};
+use sexp::{After, Value, closes, is_word, number, past};
 
 // How a term begins: its number is known at once, or terms follow at an offset and are mixed into a number.
 #[derive(Drop)]
@@ -29,15 +27,15 @@ pub(crate) fn word(room: &[u32], i: usize) -> u32
 pub(crate) fn from<'a>(s: &'a [u8], at: usize) -> &'a [u8]
     ensures { result.now ≡ drop at s.now }
 {
-    part(&*s, &*s, &*s, Source::Terms, at)
+    part(s, s, s, Source::Terms, at)
 }
 
 // The number kept for a candidate; for one that is not listed, that of `e` 0.
 fn candidate_key(room: &[u32], i: u32) -> u32
     ensures { result ≡ candidate_key room.now i }
 {
-    if i < word(&*room, 257) {
-        return word(&*room, 3456 + i as usize);
+    if i < word(room, 257) {
+        return word(room, 3456 + i as usize);
     }
     mix(5, 0)
 }
@@ -47,25 +45,18 @@ fn binding_key(room: &[u32], b: Binding) -> u32
     ensures { result ≡ binding_key room.now b }
 {
     match b {
-        Binding::Candidate(i) => candidate_key(&*room, i),
+        Binding::Candidate(i) => candidate_key(room, i),
         Binding::Parameter(k) => mix(5, k),
     }
-}
-
-// The number of what variable i of the frame of a spot is bound to.
-pub(crate) fn bound_key(room: &[u32], x: Spot, i: usize) -> u32
-    ensures { result ≡ binding_key room.now (bound_to (bindings_at room.now x) i) }
-{
-    binding_key(&*room, variable(&*room, x.base, x.count, i))
 }
 
 // The number of the variable that a part of a file starts with.
 fn variable_key(t: &[u8], room: &[u32], x: Spot) -> u32
     ensures { VariableAt t.now room.now x result }
 {
-    match number(&*t, 4) {
+    match number(t, 4) {
         Value::Nothing => 0,
-        Value::Is(i) => bound_key(&*room, x, i),
+        Value::Is(i) => binding_key(room, variable(room, x.base, x.count, i)),
     }
 }
 
@@ -73,7 +64,7 @@ fn variable_key(t: &[u8], room: &[u32], x: Spot) -> u32
 fn parameter_key(t: &[u8]) -> u32
     ensures { ParameterAt t.now result }
 {
-    match number(&*t, 4) {
+    match number(t, 4) {
         Value::Nothing => 0,
         Value::Is(k) => mix(5, hold(k)),
     }
@@ -83,15 +74,15 @@ fn parameter_key(t: &[u8]) -> u32
 fn begins(t: &[u8], room: &[u32], x: Spot) -> Begun
     ensures { BeginsAt t.now room.now x result }
 {
-    if is_word(&*t, 1, b"v") {
-        return Begun::Key(variable_key(&*t, &*room, x));
+    if is_word(t, 1, b"v") {
+        return Begun::Key(variable_key(t, room, x));
     }
-    if is_word(&*t, 1, b"e") {
-        return Begun::Key(parameter_key(&*t));
+    if is_word(t, 1, b"e") {
+        return Begun::Key(parameter_key(t));
     }
-    match past(&*t, 4, 0) {
+    match past(t, 4, 0) {
         After::Nothing => Begun::Key(0),
-        After::Next(n) => Begun::Terms(n, text_key(&*t, 4)),
+        After::Next(n) => Begun::Terms(n, text_key(t, 4)),
     }
 }
 
@@ -103,29 +94,23 @@ pub(crate) fn key_at<'a>(s: &'a [u8], at: usize, room: &[u32], x: Spot, nest: us
     if nest == 0 {
         return 0;
     }
-    let t = from(&*s, at);
-    match begins(t, &*room, x) {
+    let t = from(s, at);
+    match begins(t, room, x) {
         Begun::Key(k) => k,
-        Begun::Terms(n, h) => keys_at(t, n, &*room, x, h, nest - 1),
+        Begun::Terms(n, h) => keys_at(t, n, room, x, h, nest - 1),
     }
 }
 
-// A number with those of terms mixed into it, one after the other, up to the closing parenthesis. A variable of one digit is known by its eight bytes, so that `key_at` is not called for it.
+// A number with those of terms mixed into it, one after the other, up to the closing parenthesis.
 #[cycle(key_at_keys_at)]
 pub(crate) fn keys_at<'a>(s: &'a [u8], at: usize, room: &[u32], x: Spot, h: u32, nest: usize) -> u32
     ensures { TermsAtKey s.now at room.now x h nest result }
 {
     let mut p = at;
     let mut k = h;
-    while !closes(&*s, p) {
-        let i = short_variable(&*s, p);
-        if i < 10 {
-            k = mix(k, bound_key(&*room, x, i));
-            p = p + 8;
-            continue;
-        }
-        k = mix(k, key_at(&*s, p, &*room, x, nest));
-        let After::Next(n) = past(&*s, p, 64) else {
+    while !closes(s, p) {
+        k = mix(k, key_at(s, p, room, x, nest));
+        let After::Next(n) = past(s, p, 64) else {
             return 0;
         };
         p = n;
@@ -138,6 +123,6 @@ pub fn term_key<'a>(rules: &'a [u8], goal: &'a [u8], terms: &'a [u8], room: &[u3
     ensures { TermKeyAt (files_of rules.now goal.now terms.now) room.now x result }
 {
     let source = x.source;
-    let s = part(&*rules, &*goal, &*terms, source, 0);
-    key_at(s, x.at, &*room, x, 64)
+    let s = part(rules, goal, terms, source, 0);
+    key_at(s, x.at, room, x, 64)
 }

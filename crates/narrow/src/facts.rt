@@ -26,10 +26,10 @@ fn by_head<'a>(
 ) -> bool
     ensures { Adds marks.old marks.new result (ByHead (files_of rules.now goal.now terms.now) room.now x y own v marks.new) }
 {
-    if !may_be(&*rules, &*goal, &*terms, &*room, x, y, own) {
+    if !may_be(rules, goal, terms, room, x, y, own) {
         return true;
     }
-    match forced_by(&*rules, &*goal, &*terms, &*room, x, y, v) {
+    match forced_by(rules, goal, terms, room, x, y, v) {
         Forced::Nothing => false,
         Forced::Never => true,
         Forced::Candidate(c) => {
@@ -56,14 +56,14 @@ fn by_fact<'a>(
     ensures { Adds marks.old marks.new result (ByFact (files_of rules.now goal.now terms.now) room.now x y own v asked kept marks.new) }
 {
     if asked == 0 {
-        return by_head(&*rules, &*goal, &*terms, &*room, x, y, own, v, marks);
+        return by_head(rules, goal, terms, room, x, y, own, v, marks);
     }
     if kept == 0 {
-        return by_head(&*rules, &*goal, &*terms, &*room, x, y, own, v, marks);
+        return by_head(rules, goal, terms, room, x, y, own, v, marks);
     }
     let c = between(asked, kept, 4);
     if c == 0 {
-        return by_head(&*rules, &*goal, &*terms, &*room, x, y, own, v, marks);
+        return by_head(rules, goal, terms, room, x, y, own, v, marks);
     }
     if c == 1023 {
         return true;
@@ -76,7 +76,7 @@ fn by_fact<'a>(
 fn rule_spot(room: &[u32], i: usize) -> Spot
     ensures { result ≡ rule_spot room.now i }
 {
-    let at = word(&*room, i) as usize;
+    let at = word(room, i) as usize;
     Spot {
         source: Source::Rules,
         at: at,
@@ -102,22 +102,20 @@ fn by_rule<'a>(
     ensures { Adds marks.old marks.new result (ByRule (files_of rules.now goal.now terms.now) room.now x own v predicate asked marks.new k) }
 {
     let i = k as usize;
-    let p = word(&*room, 3712 + i);
+    let p = word(room, 3712 + i);
     if p == 0 {
-        let y = rule_spot(&*room, 1 + i);
-        return !has_head(&*rules, &*goal, &*terms, y, x, 64);
+        let y = rule_spot(room, 1 + i);
+        return !has_head(rules, goal, terms, y, x, 64);
     }
     if p != predicate {
         return true;
     }
-    if word(&*room, 3200 + i) % 2 == 0 {
+    if word(room, 3200 + i) % 2 == 0 {
         return false;
     }
-    let y = rule_spot(&*room, 3968 + i);
-    let kept = word(&*room, 4608 + i);
-    by_fact(
-        &*rules, &*goal, &*terms, &*room, x, y, own, v, asked, kept, marks,
-    )
+    let y = rule_spot(room, 3968 + i);
+    let kept = word(room, 4608 + i);
+    by_fact(rules, goal, terms, room, x, y, own, v, asked, kept, marks)
 }
 
 // By supposed clause j: one that is an atom is a head whose frame is set. No: any other has a head with the atom's predicate, or the atom forces nothing.
@@ -134,10 +132,10 @@ fn by_one<'a>(
 ) -> bool
     ensures { Adds marks.old marks.new result (ByOne (files_of rules.now goal.now terms.now) room.now x own v marks.new j) }
 {
-    let y = supposed(&*room, j);
-    match word_there(&*rules, &*goal, &*terms, y) {
-        Word::Atom => by_head(&*rules, &*goal, &*terms, &*room, x, y, own, v, marks),
-        _ => !has_head(&*rules, &*goal, &*terms, y, x, 64),
+    let y = supposed(room, j);
+    match word_there(rules, goal, terms, y) {
+        Word::Atom => by_head(rules, goal, terms, room, x, y, own, v, marks),
+        _ => !has_head(rules, goal, terms, y, x, 64),
     }
 }
 
@@ -157,11 +155,11 @@ pub fn by_clause<'a>(
 ) -> bool
     ensures { Adds marks.old marks.new result (ByClause (files_of rules.now goal.now terms.now) room.now x own v predicate asked marks.new k) }
 {
-    let n = word(&*room, 0) as usize;
+    let n = word(room, 0) as usize;
     if k < n {
         return by_rule(
-            &*rules, &*goal, &*terms, &*room, x, own, v, predicate, asked, k as u32, marks,
+            rules, goal, terms, room, x, own, v, predicate, asked, k as u32, marks,
         );
     }
-    by_one(&*rules, &*goal, &*terms, &*room, x, own, v, k - n, marks)
+    by_one(rules, goal, terms, room, x, own, v, k - n, marks)
 }

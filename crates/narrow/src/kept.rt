@@ -18,7 +18,7 @@ fn arguments_word<'a>(rules: &'a [u8], terms: &'a [u8], room: &[u32], key: u32, 
         base: 0,
         count: 0,
     };
-    arguments_of(&*rules, &*rules, &*terms, &*room, x, 0, 64)
+    arguments_of(rules, rules, terms, room, x, 0, 64)
 }
 
 // The words of all rules' heads, in the room's table.
@@ -33,7 +33,7 @@ pub fn fill_arguments<'a>(rules: &'a [u8], terms: &'a [u8], room: &mut [u32])
         }
         let key = word(room, 3200 + k);
         let at = word(room, 3968 + k) as usize;
-        let w = arguments_word(&*rules, &*terms, room, key, at);
+        let w = arguments_word(rules, terms, room, key, at);
         put(room, 4608 + k, w);
         k += 1;
     }

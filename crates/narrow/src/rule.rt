@@ -21,7 +21,7 @@ pub(crate) fn head_at<'a>(s: &'a [u8], at: usize, nest: usize) -> Head
     if nest == 0 {
         return Head::Nothing;
     }
-    let t = part(&*s, &*s, &*s, Source::Rules, at);
+    let t = part(s, s, s, Source::Rules, at);
     match word_at(t, 1) {
         Word::Atom => Head::At(at),
         Word::Imp => {
@@ -31,7 +31,7 @@ pub(crate) fn head_at<'a>(s: &'a [u8], at: usize, nest: usize) -> Head
             Head::At(plus(at, n))
         }
         Word::And => Head::Nothing,
-        Word::All => head_at(&*s, plus(at, 6), nest - 1),
+        Word::All => head_at(s, plus(at, 6), nest - 1),
         _ => Head::Nothing,
     }
 }

@@ -57,7 +57,7 @@ fn predicate_of(rules: &[u8], h: Head) -> u32
                 base: 0,
                 count: 0,
             };
-            predicate_key(&*rules, &*rules, &*rules, x)
+            predicate_key(rules, rules, rules, x)
         }
     }
 }
@@ -73,8 +73,8 @@ pub fn fill_heads(rules: &[u8], room: &mut [u32])
             return;
         }
         let at = word(room, 1 + k) as usize;
-        let h = head_at(&*rules, at, 64);
-        put(room, 3712 + k, predicate_of(&*rules, h));
+        let h = head_at(rules, at, 64);
+        put(room, 3712 + k, predicate_of(rules, h));
         put(room, 3968 + k, place_of(h));
         k += 1;
     }

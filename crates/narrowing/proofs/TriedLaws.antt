@@ -41,7 +41,7 @@ use Rattle.proving.specs.Proving.{Ready}
 use Rattle.proving.specs.Parts.{body_place}
 use Rattle.proving.specs.Frames.{set_to, Completes}
 use Rattle.proving.specs.Filling.{Filling, FillingWith, Fails}
-use Rattle.narrowing.specs.Tried.{Given, Lacks, ServesNot, Narrows, NarrowsGoal, NarrowsAs, NarrowsKnown, Skips, NarrowsBody, NextLeft}
+use Rattle.narrowing.specs.Tried.{Given, Lacks, ServesNot, Narrows, NarrowsGoal, NarrowsAs, NarrowsKnown, Skips, NarrowsBody}
 use Rattle.narrowing.proofs.RuleLaws.{none-serves, says_nothing}
 use Rattle.proving.specs.declared.plain.Parts.{Parts}
 use Rattle.proving.proofs.StockLaws.{keeps_same, keeps_then, keeps-less}
@@ -266,37 +266,8 @@ module _ {f : Files} {mid : List ℕ} {w : Where} {p : Parts} {left : ℕ} (v : 
   pub from_start : EachFrom f mid w p v left marks r n mid 0
   from_start room narrows e q = each_start v narrows
 
-  from-skip : {now : List ℕ} (i : ℕ) → i < n → EachFrom f mid w p v left marks r n now i → r ≡ true → length marks ≡ 257 → get_or marks i 0 ≡ 0 → EachFrom f mid w p v left marks r n now (i + 1)
+  pub from-skip : {now : List ℕ} (i : ℕ) → i < n → EachFrom f mid w p v left marks r n now i → r ≡ true → length marks ≡ 257 → get_or marks i 0 ≡ 0 → EachFrom f mid w p v left marks r n now (i + 1)
   from-skip i l inv z many none room narrows e q = each-skip v narrows i n l q (inv room narrows e q) z many none
-
-  -- past as many as have none
-  from-skips : {now : List ℕ} (i d : ℕ) → i + d ≤ n → EachFrom f mid w p v left marks r n now i → length marks ≡ 257 → ((j : ℕ) → i ≤ j → j < i + d → (r ≡ true) × (get_or marks j 0 ≡ 0)) → EachFrom f mid w p v left marks r n now (i + d)
-  from-skips {now} i zero l inv many passed = subst (λ (j : ℕ). EachFrom f mid w p v left marks r n now j) (omega arith) inv
-  from-skips {now} i (suc d) l inv many passed =
-      let here = passed (i + d) (omega arith) (omega arith) in
-      subst (λ (j : ℕ). EachFrom f mid w p v left marks r n now j) (omega arith) (from-skip (i + d) (omega arith) (from-skips i d (omega arith) inv many (λ j a b. passed j a (omega arith))) here.0 many here.1)
-
-  pub from_next : {now : List ℕ} {k : ℕ} (i : ℕ) → i ≤ n → EachFrom f mid w p v left marks r n now i → length marks ≡ 257 → NextLeft r marks i n k → EachFrom f mid w p v left marks r n now k
-  from_next {now} {k} i l inv many x =
-      let far = x.further in
-      let few = x.few l in
-      let same : i + (k - i) ≡ k = omega arith in
-      subst (λ (j : ℕ). EachFrom f mid w p v left marks r n now j) same (from-skips i (k - i) (omega arith) inv many (λ j a b. x.passed j a (omega arith)))
 
   pub from-miss : {now after : List ℕ} {s : Bool} (i : ℕ) → i < n → EachFrom f mid w p v left marks r n now i → length now ≡ length mid → FillingWith f now after w p v i left s → s ≡ false → EachFrom f mid w p v left marks r n after (i + 1)
   from-miss i l inv long call z room narrows e q = each-miss v i n l q (inv room narrows e q) (long ∙ e) call z
-
--- those that are passed over before a candidate
-module _ {narrowed : Bool} {marks : List ℕ} {from n : ℕ} where
-  -- none yet
-  pub next_start : NextLeft narrowed marks from n from
-  next_start = record { further = omega arith; few = λ l. l; passed = λ j a b. absurd (omega arith) }
-
-  -- one more
-  pub next_more : {i : ℕ} → NextLeft narrowed marks from n i → i < n → narrowed ≡ true → get_or marks i 0 ≡ 0 → NextLeft narrowed marks from n (i + 1)
-  next_more {i} x l z none =
-      record {
-        further = let far = x.further in omega arith;
-        few = λ h. omega arith;
-        passed = λ j a b. one_more (λ k. from ≤ k → (narrowed ≡ true) × (get_or marks k 0 ≡ 0)) i (λ k h y. x.passed k y h) (λ y. (z, none)) j b a;
-      }

@@ -1,6 +1,6 @@
 -- Which candidates a variable need be tried with where it is in the body of a clause (document 02, Three: no verdict and no strip changes). A goal in a frame where some variables are not set yet is given a mark for each candidate.
 -- With a candidate that is left out the goal has no proof within the height, whatever the frame becomes. Crate narrow says of one clause by its heads that it does not serve an atom; here a clause may also fail to serve because its body has no proof.
-use Rattle.std.specs.Prelude.{ℕ, suc, ◌+◌, ◌≤◌, ◌<◌, ◌≡◌, Bool, true, false, List, get_or}
+use Rattle.std.specs.Prelude.{ℕ, suc, ◌+◌, ◌≡◌, Bool, true, false, List}
 use Rattle.std.proofs.Math.Option.{some}
 use Rattle.std.proofs.Math.ListN.{get_elem?}
 use Rattle.harrop.specs.declared.Binding.TheVariants.{Candidate}
@@ -75,9 +75,3 @@ NarrowsBody f room after w p v left marks r =
     (ds : List (Clause Plain)) (us : List Term) (o : List Plain) (c : Hand Plain) (bs : Bindings) (a : Atom) (e : Clause Plain) (fr : Bindings) →
     Filling f room ds us w p left o c bs a e fr → is_open p.own fr v ≡ true →
     Narrows (Stock f ds us w.supposed c) w.supposed (p.head.base + p.head.count) room after r (Skips us left o c bs a e p.own v marks fr)
-
--- the next candidate from one on that is left: the marks say something, and those before it have none
-pub record NextLeft (narrowed : Bool) (marks : List ℕ) (from n r : ℕ) : Type 0 where
-  pub further : from ≤ r
-  pub few : from ≤ n → r ≤ n
-  pub passed : (j : ℕ) → from ≤ j → j < r → (narrowed ≡ true) × (get_or marks j 0 ≡ 0)

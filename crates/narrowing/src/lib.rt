@@ -2,4 +2,4 @@
 mod setting;
 mod tried;
 
-pub use tried::{narrow_body, next_left};
+pub use tried::{is_left_out, narrow_body};

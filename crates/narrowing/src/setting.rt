@@ -27,7 +27,7 @@ fn set_one<'a>(
     if 1021 <= n {
         return;
     }
-    let Value::Is(u) = open_at(&*rules, &*goal, &*terms, room, x, p.own) else {
+    let Value::Is(u) = open_at(rules, goal, terms, room, x, p.own) else {
         return;
     };
     push(room, word_of(p.head, u), Binding::Candidate(n - 1));
@@ -50,23 +50,15 @@ fn set_from<'a>(
     }
     let x = p.head;
     let source = x.source;
-    let s = part(&*rules, &*goal, &*terms, source, x.at);
+    let s = part(rules, goal, terms, source, x.at);
     if closes(s, i) {
         return;
     }
     let After::Next(n) = past(s, i, 64) else {
         return;
     };
-    set_one(
-        &*rules,
-        &*goal,
-        &*terms,
-        room,
-        p,
-        further(x, i),
-        asked % 1024,
-    );
-    set_from(&*rules, &*goal, &*terms, room, p, n, asked / 1024);
+    set_one(rules, goal, terms, room, p, further(x, i), asked % 1024);
+    set_from(rules, goal, terms, room, p, n, asked / 1024);
 }
 
 // By the whole head.
@@ -85,9 +77,9 @@ pub(crate) fn set_beside<'a>(
     }
     let x = p.head;
     let source = x.source;
-    let s = part(&*rules, &*goal, &*terms, source, x.at);
+    let s = part(rules, goal, terms, source, x.at);
     let After::Next(n) = past(s, 7, 0) else {
         return;
     };
-    set_from(&*rules, &*goal, &*terms, room, p, n, asked);
+    set_from(rules, goal, terms, room, p, n, asked);
 }

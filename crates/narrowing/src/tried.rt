@@ -1,10 +1,10 @@
 // Which candidates a variable need be tried with, by the atoms of a clause's body (document 02, Three: no verdict and no strip changes). A head without variables lets the candidate pass that it forces on the variable.
 // Where the head of a clause has a variable of its own there, those pass that the clause's body leaves this variable, which are looked for in the same way, with what is left of the height, in at most 32 bodies for one atom.
-ghost use Rattle.std.specs.Prelude.{ℕ, min, ◌≡◌, true};
+ghost use Rattle.std.specs.Prelude.{ℕ, ◌≡◌, true, get_or};
 ghost use Rattle.packet.specs.declared.Word.TheVariants as W;
 ghost use Rattle.room.specs.Where.{files_of};
 ghost use Rattle.narrow.specs.Narrow.{More};
-ghost use Rattle.narrowing.specs.Tried.{NarrowsGoal, NarrowsAs, NarrowsKnown, NarrowsBy, NarrowsBody, NextLeft};
+ghost use Rattle.narrowing.specs.Tried.{NarrowsGoal, NarrowsAs, NarrowsKnown, NarrowsBy, NarrowsBody};
 
 use crate::setting::set_beside;
 use arguments::arguments_of;
@@ -29,8 +29,8 @@ fn has_variable<'a>(
 ) -> bool {
     let x = w.goal;
     let source = x.source;
-    let s = part(&*rules, &*goal, &*terms, source, x.at);
-    holds(s, 0, 0, 64, &*room, w.goal, 0, true, v)
+    let s = part(rules, goal, terms, source, x.at);
+    holds(s, 0, 0, 64, room, w.goal, 0, true, v)
 }
 
 // The marks of a body's goal taken back for another goal of it; those of an inner body stay, others may be among them.
@@ -62,12 +62,12 @@ fn narrow_goal<'a>(
     if height == 0 {
         return false;
     }
-    match word_there(&*rules, &*goal, &*terms, w.goal) {
-        Word::Atom => narrow_atom(&*rules, &*goal, &*terms, room, w, own, v, height - 1, marks),
+    match word_there(rules, goal, terms, w.goal) {
+        Word::Atom => narrow_atom(rules, goal, terms, room, w, own, v, height - 1, marks),
         Word::And => narrow_and(
-            &*rules,
-            &*goal,
-            &*terms,
+            rules,
+            goal,
+            terms,
             room,
             w,
             own,
@@ -97,19 +97,15 @@ fn narrow_and<'a>(
     ensures { (inner ≡ true → More marks.old marks.new) × NarrowsAs W.And (files_of rules.now goal.now terms.now) room.old room.new w own v left marks.new result }
 {
     let x = within(w, 6);
-    if narrow_goal(
-        &*rules, &*goal, &*terms, room, x, own, v, inner, left, marks,
-    ) {
+    if narrow_goal(rules, goal, terms, room, x, own, v, inner, left, marks) {
         return true;
     }
     again(marks, inner);
-    let After::Next(n) = past_part(&*rules, &*goal, &*terms, w.goal, 6) else {
+    let After::Next(n) = past_part(rules, goal, terms, w.goal, 6) else {
         return false;
     };
     let y = within(w, n);
-    narrow_goal(
-        &*rules, &*goal, &*terms, room, y, own, v, inner, left, marks,
-    )
+    narrow_goal(rules, goal, terms, room, y, own, v, inner, left, marks)
 }
 
 // By the clauses at hand for an atom. No: it does not hold the variable, or nothing can be said of a clause.
@@ -127,16 +123,16 @@ fn narrow_atom<'a>(
 ) -> bool
     ensures { More marks.old marks.new × NarrowsAs W.Atom (files_of rules.now goal.now terms.now) room.old room.new w own v left marks.new result }
 {
-    if !has_variable(&*rules, &*goal, &*terms, room, w, v) {
+    if !has_variable(rules, goal, terms, room, w, v) {
         return false;
     }
-    let predicate = predicate_key(&*rules, &*goal, &*terms, w.goal);
-    let asked = arguments_of(&*rules, &*goal, &*terms, room, w.goal, own, v);
+    let predicate = predicate_key(rules, goal, terms, w.goal);
+    let asked = arguments_of(rules, goal, terms, room, w.goal, own, v);
     let n = clauses(room, w.supposed);
     let mut k = 0;
     while k < n {
         if !narrow_clause(
-            &*rules, &*goal, &*terms, room, w, own, v, predicate, asked, k, left, marks,
+            rules, goal, terms, room, w, own, v, predicate, asked, k, left, marks,
         ) {
             return false;
         }
@@ -164,11 +160,11 @@ fn narrow_clause<'a>(
     ensures { More marks.old marks.new × NarrowsKnown (files_of rules.now goal.now terms.now) room.old room.new w own v predicate asked k left marks.new result }
 {
     if by_clause(
-        &*rules, &*goal, &*terms, room, w.goal, own, v, predicate, asked, k, marks,
+        rules, goal, terms, room, w.goal, own, v, predicate, asked, k, marks,
     ) {
         return true;
     }
-    narrow_rule(&*rules, &*goal, &*terms, room, w, v, asked, k, left, marks)
+    narrow_rule(rules, goal, terms, room, w, v, asked, k, left, marks)
 }
 
 // By the body of clause k, of whose own variables those are set that stand beside arguments of the atom that are set: where its head has a variable at the place of v, what the body says of that one. No: an `and` is on the way to its heads, or it has no body, or no such variable.
@@ -190,25 +186,23 @@ fn narrow_rule<'a>(
     let Chosen::Clause(x) = open_clause(room, k, w.supposed, w.top) else {
         return false;
     };
-    let p = clause_parts(&*rules, &*goal, &*terms, room, k, x);
+    let p = clause_parts(rules, goal, terms, room, k, x);
     if !p.found {
         return false;
     }
     if !p.body {
         return false;
     }
-    let Value::Is(u) = same_as(&*rules, &*goal, &*terms, w.goal, p.head, v) else {
+    let Value::Is(u) = same_as(rules, goal, terms, w.goal, p.head, v) else {
         return false;
     };
     if !spend(marks) {
         return false;
     }
     unset_all(room, p.head, p.own);
-    set_beside(&*rules, &*goal, &*terms, room, p, asked);
+    set_beside(rules, goal, terms, room, p, asked);
     let y = body_place(w, p);
-    narrow_goal(
-        &*rules, &*goal, &*terms, room, y, p.own, u, true, left, marks,
-    )
+    narrow_goal(rules, goal, terms, room, y, p.own, u, true, left, marks)
 }
 
 // By the body of a clause, if it has one.
@@ -229,9 +223,9 @@ pub fn narrow_body<'a>(
         return false;
     }
     narrow_goal(
-        &*rules,
-        &*goal,
-        &*terms,
+        rules,
+        goal,
+        terms,
         room,
         body_place(w, p),
         p.own,
@@ -242,27 +236,17 @@ pub fn narrow_body<'a>(
     )
 }
 
-// The lesser of two.
-fn lesser(n: u32, m: usize) -> u32
-    ensures { result ≡ min n m }
+// Whether a candidate is passed over: the marks say something, and it has none.
+pub fn is_left_out(narrowed: bool, marks: &[u8], i: u32) -> bool
+    ensures { result ≡ true → (narrowed ≡ true) × (get_or marks.now i 0 ≡ 0) }
 {
-    if m < n as usize { m as u32 } else { n }
-}
-
-// The first candidate from one on, of n, that is not passed over; n or more if there is none. One is passed over where the marks say something and it has none; those past the marks never are.
-pub fn next_left(narrowed: bool, marks: &[u8], from: u32, n: u32) -> u32
-    ensures { NextLeft narrowed marks.now from n result }
-{
+    let k = i as usize;
     if !narrowed {
-        return from;
+        return false;
     }
-    let m = lesser(n, marks.len());
-    let mut i = from;
-    while i < m {
-        if marks[i as usize] != 0 {
-            return i;
-        }
-        i += 1;
+    if k < marks.len() {
+        marks[k] == 0
+    } else {
+        false
     }
-    i
 }

@@ -86,7 +86,7 @@ pub fn word_there<'a>(rules: &'a [u8], goal: &'a [u8], terms: &'a [u8], x: Spot)
 {
     let source = x.source;
     let at = x.at;
-    word_at(part(&*rules, &*goal, &*terms, source, at), 1)
+    word_at(part(rules, goal, terms, source, at), 1)
 }
 
 // Past the part of it that begins n bytes on, counted from the spot.
@@ -95,5 +95,5 @@ pub fn past_part<'a>(rules: &'a [u8], goal: &'a [u8], terms: &'a [u8], x: Spot, 
 {
     let source = x.source;
     let at = x.at;
-    past(part(&*rules, &*goal, &*terms, source, at), n, 64)
+    past(part(rules, goal, terms, source, at), n, 64)
 }

@@ -80,22 +80,22 @@ front-inside z n l = sym (length-take-le n z l)
 -- the first strip drawn into `z`: copied only if it is not too long
 module _ (z' d : List ℕ) (m : Drawn) (most : ℕ) (w : most ≡ min (length d) most_bytes) where
   pub too_long : (q : Proposal) → most < m.at → q ≡ proposal (Comes.refuses R.Buffer F.None) → Handing z' m d d q
-  too_long q n a h rs gs ts room after z stands same v b S s x e = no_room S d m.at q (v b S s x e).long (omega arith) a
+  too_long q n a h rs gs ts room after z same v b S s e = no_room S d m.at q (v b S s e).long (omega arith) a
 
   pub strip-copied : (d' : List ℕ) (next : ℕ) → m.at ≤ most → m.at ≤ length z' → Puts 0 (take m.at z') d d' next → Handing z' m d d' (P.Found m.height m.nodes m.at)
-  strip-copied d' next n l p h rs gs ts room after z stands same v b S s t e =
-      let y = v b S s t e in
+  strip-copied d' next n l p h rs gs ts room after z same v b S s e =
+      let y = v b S s e in
       let (x, c) = counted-short (length d) (length (written S)) m.at y.long (omega arith) in
       finding (unless_long (length d) S) S d d' m (unless-fits (length d) S x) y.high y.many c
       (copied (written S) z z' d d' m.at next (y.bytes (omega arith) (omega arith)) c p (omega arith) (omega arith))
 
--- a strip that is longer than any may be, whatever the buffer; and one that is drawn once more, since the packet stays set out. What the search has left is used up then
-module _ (h : ℕ) (rs gs ts room after z z' d : List ℕ) (stands : Bool) (m : Drawn) (v : Measuring h rs gs ts room after z z' stands m) where
-  pub longer-than-any : (q : Proposal) → most_bytes < m.at → q ≡ proposal (Comes.refuses R.Buffer F.None) → Filling h rs gs ts room stands d d q
-  longer-than-any q n a b S s x e = no_room S d m.at q (v b S s x e).long (omega arith) a
+-- a strip that is longer than any may be, whatever the buffer; and one that is drawn once more, since the packet stays set out
+module _ (h : ℕ) (rs gs ts room after z z' d : List ℕ) (m : Drawn) (v : Measuring h rs gs ts room after z z' m) where
+  pub longer-than-any : (q : Proposal) → most_bytes < m.at → q ≡ proposal (Comes.refuses R.Buffer F.None) → Filling h rs gs ts room d d q
+  longer-than-any q n a b S s e = no_room S d m.at q (v b S s e).long (omega arith) a
 
-  pub drawn-again : (d' : List ℕ) (q : Proposal) → Filling h rs gs ts after false d d' q → Filling h rs gs ts room stands d d' q
-  drawn-again d' q f b S s x e = f b S (v b S s x e).stays (λ y. absurd (false≢true y)) e
+  pub drawn-again : (d' : List ℕ) (q : Proposal) → Filling h rs gs ts after d d' q → Filling h rs gs ts room d d' q
+  drawn-again d' q f b S s e = f b S (v b S s e).stays e
 
 -- the search of a packet that is read: in `room₁` it is set out, `room₂` is left by the yes or no
 module _ (h : ℕ) (rs gs ts room room₁ room₂ d : List ℕ) (r : Bool) (t : Setting rs ts room room₁) (p : Telling h rs gs ts room₁ room₂ r) where
@@ -105,12 +105,12 @@ module _ (h : ℕ) (rs gs ts room room₁ room₂ d : List ℕ) (r : Bool) (t : 
       let y = p b (t h gs b s low long) in
       refusing (of_first (length d) (first_strip h b)) R.NoProof F.None d q (ap (of_first (length d)) (no_none (first_strip h b) r y.answer n)) a
 
-  pub some-found : (d' : List ℕ) (q : Proposal) → r ≡ true → Filling h rs gs ts room₂ true d d' q → Searching h rs gs ts room d d' q
+  pub some-found : (d' : List ℕ) (q : Proposal) → r ≡ true → Filling h rs gs ts room₂ d d' q → Searching h rs gs ts room d d' q
   unfolding of_first
   some-found d' q n f b s low long =
       let y = p b (t h gs b s low long) in
       let (S, e) = yes-some (first_strip h b) r y.answer n in
-      subst (λ (o : Option Strip). Says (of_first (length d) o) d d' q) (sym e) (f b S y.stays (λ z. y.leaves n) e)
+      subst (λ (o : Option Strip). Says (of_first (length d) o) d d' q) (sym e) (f b S y.stays e)
 
 -- any height and files
 module _ (h : ℕ) (rs gs ts room d : List ℕ) where

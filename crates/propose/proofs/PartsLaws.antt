@@ -2,7 +2,7 @@
 use Prim.Native.Nat.{ℕ, ◌+◌, ◌≤◌, ◌<◌}
 use native.Mathlib.Omega.{arith}
 use mathlib.Core.Path.{◌≡◌, sym, ◌∙◌, subst}
-use mathlib.Core.Bool.{Bool, true}
+use mathlib.Core.Bool.{Bool}
 use mathlib.Core.List.{List, []}
 use lib.ListN.{length}
 use Rattle.harrop.specs.Place.{listed, at_start}
@@ -23,13 +23,11 @@ use Rattle.table.specs.Recall.{TableOnly, Empty}
 use Rattle.table.proofs.GoodLaws.{good-empty}
 use Rattle.proving.specs.Stock.{truth, choice, Stock, Keeps}
 use Rattle.proving.specs.Proving.{Ready, Proving}
-use Rattle.proving.specs.Standing.{LeavesStanding}
 use Rattle.proving.proofs.StockLaws.{kept-below, keys_kept, keys_below, heads-below, arguments-below}
 use Rattle.proving.proofs.ProvableLaws.{provable-is}
 use Rattle.drawing.specs.Spelled.{written}
 use Rattle.drawing.specs.Writing.{Writing}
 use Rattle.drawing.specs.declared.Drawn.{Drawn}
-use Rattle.drawing.proofs.LeftLaws.{standing-left}
 use Rattle.proposal.specs.Proposed.{most_height, first_strip, over}
 use Rattle.propose.specs.Parts.{SetOut, Setting, Telling, Measuring}
 use Rattle.pen.proofs.LaidLaws.{laid-over}
@@ -76,27 +74,22 @@ module _ {h : ℕ} {rs gs ts room : List ℕ} {b : Books} (s : SetOut h rs gs ts
   stays-set-out after e k = record { low = s.low; long = omega (arith, s.long); place = means-kept k.words s.place; stock = k.stock s.stock }
 
 module _ (h : ℕ) (rs gs ts room after : List ℕ) (w : Where) (e : w ≡ start) where
-  -- whether there is one, and what is left for it
-  pub told : (r : Bool) → length after ≡ length room → Proving (files_of rs gs ts) room after w h r × (r ≡ true → LeavesStanding (files_of rs gs ts) room after w h) → Telling h rs gs ts room after r
+  -- whether there is one
+  pub told : (r : Bool) → length after ≡ length room → Proving (files_of rs gs ts) room after w h r → Telling h rs gs ts room after r
   unfolding first_strip
-  told r l (p, m) b s =
+  told r l p b s =
       let a = subst (λ (x : Where). Proving (files_of rs gs ts) room after x h r) e p b.rules b.candidates [] (at_start b.rules) [] b.goal (ready s) in
-      record {
-        stays = stays-set-out s after l a.kept;
-        answer = a.answer ∙ sym (provable-is (listed b.candidates) h [] (at_start b.rules) [] b.goal);
-        leaves = λ y. subst (λ (x : Where). LeavesStanding (files_of rs gs ts) room after x h) e (m y) b.rules b.candidates [] (at_start b.rules) [] b.goal (ready s);
-      }
+      record { stays = stays-set-out s after l a.kept; answer = a.answer ∙ sym (provable-is (listed b.candidates) h [] (at_start b.rules) [] b.goal) }
 
-  module _ (z z' : List ℕ) (stands : Bool) (r : Drawn) (p : Writing (files_of rs gs ts) room after z z' w h 0 stands r) where
-    from_start : Writing (files_of rs gs ts) room after z z' start h 0 stands r
-    from_start = subst (λ (x : Where). Writing (files_of rs gs ts) room after z z' x h 0 stands r) e p
+  module _ (z z' : List ℕ) (r : Drawn) (p : Writing (files_of rs gs ts) room after z z' w h 0 r) where
+    from_start : Writing (files_of rs gs ts) room after z z' start h 0 r
+    from_start = subst (λ (x : Where). Writing (files_of rs gs ts) room after z z' x h 0 r) e p
 
     -- its measures, and its bytes
-    pub measured : length after ≡ length room → Measuring h rs gs ts room after z z' stands r
+    pub measured : length after ≡ length room → Measuring h rs gs ts room after z z' r
     unfolding first_strip over
-    measured l b S s x q =
-        let few : length b.candidates ≤ 2147483647 = omega (arith, s.place.booked.candidates.few) in
-        let a = from_start b.rules b.candidates [] (at_start b.rules) [] b.goal S (ready s) (λ y. standing-left (files_of rs gs ts) room b.rules b.candidates few start h [] (at_start b.rules) [] b.goal (x y)) q in
+    measured l b S s q =
+        let a = from_start b.rules b.candidates [] (at_start b.rules) [] b.goal S (ready s) q in
         record {
           stays = stays-set-out s after l a.kept;
           high = a.done.high;

@@ -1,6 +1,6 @@
 -- What the parts of a search say, for every input (document 01, "Which strip the search writes", "What comes back"): the room set out, whether there is a strip, the strip drawn with its measures, and copied; then the whole of a packet that is read.
 -- `room` and `after` are the room's words before and after a call, `d` and `d'` the buffer's bytes, `z` and `z'` the scratch buffer's. The buffer is spoken of by the part that copies the strip, and by none before it.
-use Rattle.std.specs.Prelude.{ℕ, ◌≤◌, ◌≡◌, Bool, true, List, [], length}
+use Rattle.std.specs.Prelude.{ℕ, ◌≤◌, ◌≡◌, Bool, List, [], length}
 use Rattle.std.proofs.Math.Option.{some}
 use Rattle.harrop.specs.Formula.{Strip, height, nodes}
 use Rattle.harrop.specs.Place.{at_start}
@@ -11,7 +11,6 @@ use Rattle.room.specs.Where.{Means, files_of}
 use Rattle.room.specs.Start.{start}
 use Rattle.proving.specs.Provable.{is_some}
 use Rattle.proving.specs.Stock.{Stock}
-use Rattle.proving.specs.Standing.{Standing}
 use Rattle.drawing.specs.Spelled.{written}
 use Rattle.pen.specs.Laid.{counted}
 use Rattle.drawing.specs.declared.Drawn.{Drawn}
@@ -29,15 +28,10 @@ pub record SetOut (h : ℕ) (rs gs ts room : List ℕ) (b : Books) : Type 0 wher
 abbrev pub Setting : List ℕ → List ℕ → List ℕ → List ℕ → Type 0
 Setting rs ts room after = (h : ℕ) (gs : List ℕ) (b : Books) → SoundBooks rs gs ts b → h ≤ most_height → words ≤ length room → SetOut h rs gs ts after b
 
--- what a search that says yes leaves for the root place, which is written next
-abbrev pub Stands : ℕ → List ℕ → List ℕ → List ℕ → List ℕ → Books → Type 0
-Stands h rs gs ts room b = Standing (files_of rs gs ts) room b.rules b.candidates start h [] (at_start b.rules) [] b.goal
-
 -- whether there is a strip within the height; the packet stays set out
 pub record Told (h : ℕ) (rs gs ts after : List ℕ) (b : Books) (r : Bool) : Type 0 where
   pub stays : SetOut h rs gs ts after b
   pub answer : r ≡ is_some (first_strip h b)
-  pub leaves : r ≡ true → Stands h rs gs ts after b
 
 abbrev pub Telling : ℕ → List ℕ → List ℕ → List ℕ → List ℕ → List ℕ → Bool → Type 0
 Telling h rs gs ts room after r = (b : Books) → SetOut h rs gs ts room b → Told h rs gs ts after b r
@@ -50,10 +44,8 @@ pub record Measured (h : ℕ) (rs gs ts after z z' : List ℕ) (b : Books) (S : 
   pub long : r.at ≡ counted (length (written S))
   pub bytes : length (written S) ≤ length z → length (written S) ≤ most_bytes → z' ≡ over (written S) z
 
--- where it stands, what the search has left is in the room still
-abbrev pub Measuring : ℕ → List ℕ → List ℕ → List ℕ → List ℕ → List ℕ → List ℕ → List ℕ → Bool → Drawn → Type 0
-Measuring h rs gs ts room after z z' stands r =
-    (b : Books) (S : Strip) → SetOut h rs gs ts room b → (stands ≡ true → Stands h rs gs ts room b) → first_strip h b ≡ some S → Measured h rs gs ts after z z' b S r
+abbrev pub Measuring : ℕ → List ℕ → List ℕ → List ℕ → List ℕ → List ℕ → List ℕ → List ℕ → Drawn → Type 0
+Measuring h rs gs ts room after z z' r = (b : Books) (S : Strip) → SetOut h rs gs ts room b → first_strip h b ≡ some S → Measured h rs gs ts after z z' b S r
 
 -- an answer and the buffer behind it, as a search comes to them
 pub record Says (x : Comes) (d d' : List ℕ) (r : Proposal) : Type 0 where
@@ -61,13 +53,12 @@ pub record Says (x : Comes) (d d' : List ℕ) (r : Proposal) : Type 0 where
   pub strip : d' ≡ left x d
 
 -- the first strip fills the front of a buffer that has room for it, and a buffer that has not is as it came; with the answer
-abbrev pub Filling : ℕ → List ℕ → List ℕ → List ℕ → List ℕ → Bool → List ℕ → List ℕ → Proposal → Type 0
-Filling h rs gs ts room stands d d' r =
-    (b : Books) (S : Strip) → SetOut h rs gs ts room b → (stands ≡ true → Stands h rs gs ts room b) → first_strip h b ≡ some S → Says (unless_long (length d) S) d d' r
+abbrev pub Filling : ℕ → List ℕ → List ℕ → List ℕ → List ℕ → List ℕ → List ℕ → Proposal → Type 0
+Filling h rs gs ts room d d' r = (b : Books) (S : Strip) → SetOut h rs gs ts room b → first_strip h b ≡ some S → Says (unless_long (length d) S) d d' r
 
 -- the same of a strip that is drawn whole in the scratch buffer `z'`, wherever it was drawn from
 abbrev pub Handing : List ℕ → Drawn → List ℕ → List ℕ → Proposal → Type 0
-Handing z' m d d' r = (h : ℕ) (rs gs ts room after z : List ℕ) (stands : Bool) → length z' ≡ length z → Measuring h rs gs ts room after z z' stands m → Filling h rs gs ts room stands d d' r
+Handing z' m d d' r = (h : ℕ) (rs gs ts room after z : List ℕ) → length z' ≡ length z → Measuring h rs gs ts room after z z' m → Filling h rs gs ts room d d' r
 
 -- a packet that is read, with a height that may be asked for and room enough
 abbrev pub Searching : ℕ → List ℕ → List ℕ → List ℕ → List ℕ → List ℕ → List ℕ → Proposal → Type 0

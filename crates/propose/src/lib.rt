@@ -23,7 +23,7 @@ pub fn propose<'a>(
     if room.len() < 8192 {
         return refused(Reason::Room);
     }
-    let r = search_files(&*rules, &*goal, &*terms, height, strip, room);
+    let r = search_files(rules, goal, terms, height, strip, room);
     clear(room);
     r
 }

@@ -1,6 +1,6 @@
 // A search in three parts, once the room is set out: whether there is a strip, the strip drawn with its measures, and its bytes copied. The buffer is touched by the last of them alone,
 // when the whole answer is known (document 01, "Which strip the search writes", "What comes back").
-ghost use Rattle.std.specs.Prelude.{◌≡◌, true, false, min, ◌≤◌, length};
+ghost use Rattle.std.specs.Prelude.{◌≡◌, min, ◌≤◌, length};
 ghost use Rattle.packet.specs.File.{most_bytes};
 ghost use Rattle.packet.specs.declared.File.TheVariants as F;
 ghost use Rattle.packet.specs.declared.Reason.TheVariants as R;
@@ -23,14 +23,14 @@ use writer::write_goal;
 fn set_out<'a>(rules: &'a [u8], terms: &'a [u8], room: &mut [u32])
     ensures { Setting rules.now terms.now room.old room.new }
 {
-    fill_tables(&*rules, &*terms, room);
-    fill_keys(&*rules, &*terms, room);
-    fill_heads(&*rules, room);
-    fill_arguments(&*rules, &*terms, room);
+    fill_tables(rules, terms, room);
+    fill_keys(rules, terms, room);
+    fill_heads(rules, room);
+    fill_arguments(rules, terms, room);
     empty_all(room);
 }
 
-// Whether there is a strip within the height. If yes, what was found on the way to it is left in the room.
+// Whether there is a strip within the height.
 fn has_proof<'a>(
     rules: &'a [u8],
     goal: &'a [u8],
@@ -40,10 +40,10 @@ fn has_proof<'a>(
 ) -> bool
     ensures { Telling height rules.now goal.now terms.now room.old room.new result }
 {
-    prove_goal(&*rules, &*goal, &*terms, room, first_place(), height)
+    prove_goal(rules, goal, terms, room, first_place(), height)
 }
 
-// The first strip drawn into the scratch buffer, as far as that has room, and its height, nodes and length. Where `stands`, what the search has left is in the room still and is not asked for again.
+// The first strip drawn into the scratch buffer, as far as that has room, and its height, nodes and length.
 fn measure<'a>(
     rules: &'a [u8],
     goal: &'a [u8],
@@ -51,21 +51,10 @@ fn measure<'a>(
     height: usize,
     scratch: &mut [u8],
     room: &mut [u32],
-    stands: bool,
 ) -> Drawn
-    ensures { Measuring height rules.now goal.now terms.now room.old room.new scratch.old scratch.new stands result }
+    ensures { Measuring height rules.now goal.now terms.now room.old room.new scratch.old scratch.new result }
 {
-    write_goal(
-        &*rules,
-        &*goal,
-        &*terms,
-        room,
-        scratch,
-        first_place(),
-        height,
-        0,
-        stands,
-    )
+    write_goal(rules, goal, terms, room, scratch, first_place(), height, 0)
 }
 
 // The longest strip that a buffer of so many bytes may get.
@@ -109,7 +98,7 @@ fn hand_over(strip: &mut [u8], scratch: &[u8], first: Drawn) -> Proposal
     }
 }
 
-// The first strip, where there is one, drawn with as many bytes as a strip may have. It was drawn before, so nothing is left of the search.
+// The first strip, where there is one, drawn with as many bytes as a strip may have.
 fn write_long<'a>(
     rules: &'a [u8],
     goal: &'a [u8],
@@ -118,10 +107,10 @@ fn write_long<'a>(
     strip: &mut [u8],
     room: &mut [u32],
 ) -> Proposal
-    ensures { Filling height rules.now goal.now terms.now room.old false strip.old strip.new result }
+    ensures { Filling height rules.now goal.now terms.now room.old strip.old strip.new result }
 {
     let mut scratch = [0u8; 16384];
-    let first = measure(&*rules, &*goal, &*terms, height, &mut scratch, room, false);
+    let first = measure(rules, goal, terms, height, &mut scratch, room);
     if 16384 < first.at {
         return too_long();
     }
@@ -138,12 +127,12 @@ fn write<'a>(
     strip: &mut [u8],
     room: &mut [u32],
 ) -> Proposal
-    ensures { Filling height rules.now goal.now terms.now room.old true strip.old strip.new result }
+    ensures { Filling height rules.now goal.now terms.now room.old strip.old strip.new result }
 {
     let mut scratch = [0u8; 2048];
-    let first = measure(&*rules, &*goal, &*terms, height, &mut scratch, room, true);
+    let first = measure(rules, goal, terms, height, &mut scratch, room);
     if 2048 < first.at {
-        return write_long(&*rules, &*goal, &*terms, height, strip, room);
+        return write_long(rules, goal, terms, height, strip, room);
     }
     hand_over(strip, &scratch, first)
 }
@@ -159,11 +148,11 @@ fn search_goal<'a>(
 ) -> Proposal
     ensures { Searching height rules.now goal.now terms.now room.old strip.old strip.new result }
 {
-    set_out(&*rules, &*terms, room);
-    if !has_proof(&*rules, &*goal, &*terms, height, room) {
+    set_out(rules, terms, room);
+    if !has_proof(rules, goal, terms, height, room) {
         return refused(Reason::NoProof);
     }
-    write(&*rules, &*goal, &*terms, height, strip, room)
+    write(rules, goal, terms, height, strip, room)
 }
 
 // The height and the three files, with room enough. What is left in the room does not matter.
@@ -180,12 +169,12 @@ pub(crate) fn search_files<'a>(
     if 32 < height {
         return refused(Reason::Height);
     }
-    match read_books(&*rules, &*goal, &*terms) {
+    match read_books(rules, goal, terms) {
         Read::Refused(reason, file, _) => Proposal::Refused {
             reason,
             file,
             place: 0,
         },
-        Read::Sound(_, _) => search_goal(&*rules, &*goal, &*terms, height, strip, room),
+        Read::Sound(_, _) => search_goal(rules, goal, terms, height, strip, room),
     }
 }

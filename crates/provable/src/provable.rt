@@ -5,13 +5,12 @@ ghost use Rattle.packet.specs.declared.Word.TheVariants as W;
 ghost use Rattle.room.specs.Where.{files_of};
 ghost use Rattle.proving.specs.Proving.{Proving, ProvingAs, ProvingBy, Finding, Deciding, Passing, PassingAs, PassingWith};
 ghost use Rattle.proving.specs.Filling.{PassingParts, Locating, LocatingAt, LocatingFirst, LocatingSome, LookingBody, Looking, LookingAs, LookingOne, Dues, FillingFrom, FillingEach, FillingWith};
-ghost use Rattle.proving.specs.Standing.{LeavesStanding, LeavesStandingAs};
 
 use harrop::Binding;
 use heads::has_head;
 use held::{Met, holds, is_open, meets};
 use keys::{both_keys, next_clause};
-use narrowing::{narrow_body, next_left};
+use narrowing::{is_left_out, narrow_body};
 use packet::Word;
 use places::{bound, further, past_part, plus, supposes, within, word_there};
 use proving::{
@@ -23,7 +22,7 @@ use sexp::After;
 use start::may_use;
 use table::{Recalled, forget, keep, recall, slot_for};
 
-// Whether the goal of a place has a proof of at most this height. If yes, the room is left as the writer needs it, who comes to the same place next.
+// Whether the goal of a place has a proof of at most this height.
 #[cycle(ask_body_both_decide_each_fill_find_clause_fork_look_look_and_prove_all_prove_atom_prove_goal_prove_or_prove_some_start_through_through_with_try_all_try_one_under_use_clause)]
 pub fn prove_goal<'a>(
     rules: &'a [u8],
@@ -33,19 +32,19 @@ pub fn prove_goal<'a>(
     w: Where,
     height: usize,
 ) -> bool
-    ensures { Proving (files_of rules.now goal.now terms.now) room.old room.new w height result × (result ≡ true → LeavesStanding (files_of rules.now goal.now terms.now) room.old room.new w height) }
+    ensures { Proving (files_of rules.now goal.now terms.now) room.old room.new w height result }
 {
     if height == 0 {
         return false;
     }
-    match word_there(&*rules, &*goal, &*terms, w.goal) {
+    match word_there(rules, goal, terms, w.goal) {
         Word::Top => true,
-        Word::Atom => prove_atom(&*rules, &*goal, &*terms, room, w, height - 1),
-        Word::And => both(&*rules, &*goal, &*terms, room, w, height - 1),
-        Word::Or => prove_or(&*rules, &*goal, &*terms, room, w, height - 1),
-        Word::Some => prove_some(&*rules, &*goal, &*terms, room, w, height - 1),
-        Word::All => prove_all(&*rules, &*goal, &*terms, room, w, height - 1),
-        Word::Imp => under(&*rules, &*goal, &*terms, room, w, height - 1),
+        Word::Atom => prove_atom(rules, goal, terms, room, w, height - 1),
+        Word::And => both(rules, goal, terms, room, w, height - 1),
+        Word::Or => prove_or(rules, goal, terms, room, w, height - 1),
+        Word::Some => prove_some(rules, goal, terms, room, w, height - 1),
+        Word::All => prove_all(rules, goal, terms, room, w, height - 1),
+        Word::Imp => under(rules, goal, terms, room, w, height - 1),
         _ => false,
     }
 }
@@ -62,13 +61,13 @@ fn both<'a>(
 ) -> bool
     ensures { ProvingAs W.And (files_of rules.now goal.now terms.now) room.old room.new w left result }
 {
-    if !prove_goal(&*rules, &*goal, &*terms, room, within(w, 6), left) {
+    if !prove_goal(rules, goal, terms, room, within(w, 6), left) {
         return false;
     }
-    let After::Next(n) = past_part(&*rules, &*goal, &*terms, w.goal, 6) else {
+    let After::Next(n) = past_part(rules, goal, terms, w.goal, 6) else {
         return false;
     };
-    prove_goal(&*rules, &*goal, &*terms, room, within(w, n), left)
+    prove_goal(rules, goal, terms, room, within(w, n), left)
 }
 
 // The left part of an `or`, else the right one.
@@ -83,13 +82,13 @@ fn prove_or<'a>(
 ) -> bool
     ensures { ProvingAs W.Or (files_of rules.now goal.now terms.now) room.old room.new w left result }
 {
-    let After::Next(n) = past_part(&*rules, &*goal, &*terms, w.goal, 5) else {
+    let After::Next(n) = past_part(rules, goal, terms, w.goal, 5) else {
         return false;
     };
-    if prove_goal(&*rules, &*goal, &*terms, room, within(w, 5), left) {
+    if prove_goal(rules, goal, terms, room, within(w, 5), left) {
         return true;
     }
-    prove_goal(&*rules, &*goal, &*terms, room, within(w, n), left)
+    prove_goal(rules, goal, terms, room, within(w, n), left)
 }
 
 // The goal inside a chain of `some`, its variables not set at first; each of the quantifiers takes one of the height. If yes, the numbers of the first candidates with which it has a proof are left on top of the stack.
@@ -104,11 +103,11 @@ pub fn prove_some<'a>(
 ) -> bool
     ensures { ProvingAs W.Some (files_of rules.now goal.now terms.now) room.old room.new w left result × (result ≡ true → LocatingSome (files_of rules.now goal.now terms.now) room.old room.new w left) }
 {
-    let p = chain_of(&*rules, &*goal, &*terms, deeper(w.goal, 7), 1, 64);
+    let p = chain_of(rules, goal, terms, deeper(w.goal, 7), 1, 64);
     if left < p.own {
         return false;
     }
-    start(&*rules, &*goal, &*terms, room, w, p, left - (p.own - 1))
+    start(rules, goal, terms, room, w, p, left - (p.own - 1))
 }
 
 // The part of an `all`, with one more parameter.
@@ -121,14 +120,14 @@ fn prove_all<'a>(
     w: Where,
     left: usize,
 ) -> bool
-    ensures { ProvingAs W.All (files_of rules.now goal.now terms.now) room.old room.new w left result × (result ≡ true → LeavesStandingAs W.All (files_of rules.now goal.now terms.now) room.old room.new w left) }
+    ensures { ProvingAs W.All (files_of rules.now goal.now terms.now) room.old room.new w left result }
 {
     if 64 <= w.parameters {
         return false;
     }
     let p = w.parameters + 1;
     push(room, w.top, Binding::Parameter(p as u32));
-    prove_goal(&*rules, &*goal, &*terms, room, bound(w, 6, p), left)
+    prove_goal(rules, goal, terms, room, bound(w, 6, p), left)
 }
 
 // The part of an `imp`, under its clause.
@@ -141,20 +140,20 @@ fn under<'a>(
     w: Where,
     left: usize,
 ) -> bool
-    ensures { ProvingAs W.Imp (files_of rules.now goal.now terms.now) room.old room.new w left result × (result ≡ true → LeavesStandingAs W.Imp (files_of rules.now goal.now terms.now) room.old room.new w left) }
+    ensures { ProvingAs W.Imp (files_of rules.now goal.now terms.now) room.old room.new w left result }
 {
     if left == 0 {
         return false;
     }
-    let After::Next(n) = past_part(&*rules, &*goal, &*terms, w.goal, 6) else {
+    let After::Next(n) = past_part(rules, goal, terms, w.goal, 6) else {
         return false;
     };
     suppose(room, w.supposed, further(w.goal, 6));
     forget(room, plus(w.supposed, 1));
-    prove_goal(&*rules, &*goal, &*terms, room, supposes(w, n), left)
+    prove_goal(rules, goal, terms, room, supposes(w, n), left)
 }
 
-// An atom: by the table if it has it, else by the clauses at hand. An atom that no clause can serve, by their numbers, is in no table; the first that may is looked for once, here. An atom's number is odd, so half of it says the slot.
+// An atom: by the table if it has it, else by the clauses at hand. An atom that no clause can serve, by their numbers, is in no table. An atom's number is odd, so half of it says the slot.
 #[cycle(ask_body_both_decide_each_fill_find_clause_fork_look_look_and_prove_all_prove_atom_prove_goal_prove_or_prove_some_start_through_through_with_try_all_try_one_under_use_clause)]
 fn prove_atom<'a>(
     rules: &'a [u8],
@@ -166,28 +165,16 @@ fn prove_atom<'a>(
 ) -> bool
     ensures { ProvingAs W.Atom (files_of rules.now goal.now terms.now) room.old room.new w left result }
 {
-    let of = both_keys(&*rules, &*goal, &*terms, room, w.goal);
+    let of = both_keys(rules, goal, terms, room, w.goal);
     let n = clauses(room, w.supposed);
-    let k = next_clause(room, of.predicate, of.key, 0, n);
-    if n <= k {
+    if n <= next_clause(room, of.predicate, of.key, 0, n) {
         return false;
     }
     let at = slot_for(room, (of.key / 2) as usize);
-    match recall(&*rules, &*goal, &*terms, room, w, plus(left, 1), at) {
+    match recall(rules, goal, terms, room, w, plus(left, 1), at) {
         Recalled::No => false,
         Recalled::Yes => true,
-        Recalled::Unknown => decide(
-            &*rules,
-            &*goal,
-            &*terms,
-            room,
-            w,
-            of.predicate,
-            of.key,
-            k,
-            at,
-            left,
-        ),
+        Recalled::Unknown => decide(rules, goal, terms, room, w, of.predicate, of.key, at, left),
     }
 }
 
@@ -201,20 +188,17 @@ fn decide<'a>(
     w: Where,
     predicate: u32,
     key: u32,
-    first: usize,
     at: usize,
     left: usize,
 ) -> bool
-    ensures { Deciding (files_of rules.now goal.now terms.now) room.old room.new w predicate key first at left result }
+    ensures { Deciding (files_of rules.now goal.now terms.now) room.old room.new w predicate key at left result }
 {
-    let k = find_clause(
-        &*rules, &*goal, &*terms, room, w, predicate, key, first, left,
-    );
+    let k = find_clause(rules, goal, terms, room, w, predicate, key, left);
     if clauses(room, w.supposed) <= k {
         keep(rules, goal, terms, room, w, plus(left, 1), at, false, 0);
         return false;
     }
-    if is_fact(&*rules, room, k) {
+    if is_fact(rules, room, k) {
         return true;
     }
     let number = rule_number(room, k);
@@ -222,7 +206,7 @@ fn decide<'a>(
     true
 }
 
-// The first clause at hand that serves an atom; how many there are if none does. Rules whose number says that they cannot are passed over, and the caller has looked for the first that may. If no `and` is on the way to its head, the numbers of the first path through it are left behind its frame.
+// The first clause at hand that serves an atom; how many there are if none does. Rules whose number says that they cannot are passed over. If no `and` is on the way to its head, the numbers of the first path through it are left behind its frame.
 #[cycle(ask_body_both_decide_each_fill_find_clause_fork_look_look_and_prove_all_prove_atom_prove_goal_prove_or_prove_some_start_through_through_with_try_all_try_one_under_use_clause)]
 pub fn find_clause<'a>(
     rules: &'a [u8],
@@ -232,15 +216,14 @@ pub fn find_clause<'a>(
     w: Where,
     predicate: u32,
     key: u32,
-    first: usize,
     left: usize,
 ) -> usize
-    ensures { Finding (files_of rules.now goal.now terms.now) room.old room.new w predicate key first left result × LocatingFirst (files_of rules.now goal.now terms.now) room.old room.new w predicate key first left result }
+    ensures { Finding (files_of rules.now goal.now terms.now) room.old room.new w predicate key left result × LocatingFirst (files_of rules.now goal.now terms.now) room.old room.new w predicate key left result }
 {
     let n = clauses(room, w.supposed);
-    let mut k = first;
+    let mut k = next_clause(room, predicate, key, 0, n);
     while k < n {
-        if use_clause(&*rules, &*goal, &*terms, room, w, k, left) {
+        if use_clause(rules, goal, terms, room, w, k, left) {
             return k;
         }
         k = next_clause(room, predicate, key, k + 1, n);
@@ -264,11 +247,11 @@ pub fn use_clause<'a>(
     let Chosen::Clause(x) = open_clause(room, k, w.supposed, w.top) else {
         return false;
     };
-    let p = clause_parts(&*rules, &*goal, &*terms, room, k, x);
+    let p = clause_parts(rules, goal, terms, room, k, x);
     if p.found {
-        return start(&*rules, &*goal, &*terms, room, w, p, left);
+        return start(rules, goal, terms, room, w, p, left);
     }
-    through(&*rules, &*goal, &*terms, room, w, x, 64, left)
+    through(rules, goal, terms, room, w, x, 64, left)
 }
 
 // Whether a path through the clause at a spot ends at the atom, with a proof of the body if there is one. Where an `and` is on the way, the heads are looked at before any candidate is tried (document 02, Three).
@@ -288,16 +271,16 @@ pub fn through<'a>(
     if nest == 0 {
         return false;
     }
-    let p = parts_of(&*rules, &*goal, &*terms, x, 0, 64);
+    let p = parts_of(rules, goal, terms, x, 0, 64);
     if p.found {
-        return start(&*rules, &*goal, &*terms, room, w, p, left);
+        return start(rules, goal, terms, room, w, p, left);
     }
-    if !has_head(&*rules, &*goal, &*terms, x, w.goal, 64) {
+    if !has_head(rules, goal, terms, x, w.goal, 64) {
         return false;
     }
-    match word_there(&*rules, &*goal, &*terms, x) {
-        Word::And => fork(&*rules, &*goal, &*terms, room, w, x, nest - 1, left),
-        Word::All => each(&*rules, &*goal, &*terms, room, w, x, nest - 1, left),
+    match word_there(rules, goal, terms, x) {
+        Word::And => fork(rules, goal, terms, room, w, x, nest - 1, left),
+        Word::All => each(rules, goal, terms, room, w, x, nest - 1, left),
         _ => false,
     }
 }
@@ -316,13 +299,13 @@ fn start<'a>(
     ensures { PassingParts (files_of rules.now goal.now terms.now) room.old room.new w p left result }
 {
     unset_all(room, p.head, p.own);
-    let Going::On(q) = meet(&*rules, &*goal, &*terms, room, w, p) else {
+    let Going::On(q) = meet(rules, goal, terms, room, w, p) else {
         return false;
     };
-    if !body(&*rules, &*goal, &*terms, room, w, q, false, 0, left) {
+    if !body(rules, goal, terms, room, w, q, false, 0, left) {
         return false;
     }
-    fill(&*rules, &*goal, &*terms, room, w, q, p.own, left)
+    fill(rules, goal, terms, room, w, q, p.own, left)
 }
 
 // The goals of the body, if there is one.
@@ -344,9 +327,9 @@ fn body<'a>(
         return true;
     }
     look(
-        &*rules,
-        &*goal,
-        &*terms,
+        rules,
+        goal,
+        terms,
         room,
         body_place(w, p),
         p.own,
@@ -371,18 +354,18 @@ fn look<'a>(
 ) -> bool
     ensures { Looking (files_of rules.now goal.now terms.now) room.old room.new w own also v height result }
 {
-    match word_there(&*rules, &*goal, &*terms, w.goal) {
-        Word::And => look_and(&*rules, &*goal, &*terms, room, w, own, also, v, height),
+    match word_there(rules, goal, terms, w.goal) {
+        Word::And => look_and(rules, goal, terms, room, w, own, also, v, height),
         Word::Atom => {
-            if !is_due(&*rules, &*goal, &*terms, room, w, own, also, v) {
+            if !is_due(rules, goal, terms, room, w, own, also, v) {
                 return true;
             }
             if height == 0 {
                 return false;
             }
-            prove_atom(&*rules, &*goal, &*terms, room, w, height - 1)
+            prove_atom(rules, goal, terms, room, w, height - 1)
         }
-        _ => ask(&*rules, &*goal, &*terms, room, w, own, also, v, height),
+        _ => ask(rules, goal, terms, room, w, own, also, v, height),
     }
 }
 
@@ -405,9 +388,9 @@ fn look_and<'a>(
         return false;
     }
     if !look(
-        &*rules,
-        &*goal,
-        &*terms,
+        rules,
+        goal,
+        terms,
         room,
         within(w, 6),
         own,
@@ -417,13 +400,13 @@ fn look_and<'a>(
     ) {
         return false;
     }
-    let After::Next(n) = past_part(&*rules, &*goal, &*terms, w.goal, 6) else {
+    let After::Next(n) = past_part(rules, goal, terms, w.goal, 6) else {
         return false;
     };
     look(
-        &*rules,
-        &*goal,
-        &*terms,
+        rules,
+        goal,
+        terms,
         room,
         within(w, n),
         own,
@@ -448,14 +431,14 @@ fn is_due<'a>(
 {
     let x = w.goal;
     let source = x.source;
-    let s = part(&*rules, &*goal, &*terms, source, x.at);
+    let s = part(rules, goal, terms, source, x.at);
     if !also {
-        if holds(s, 0, 0, 64, &*room, w.goal, own, false, v) {
+        if holds(s, 0, 0, 64, room, w.goal, own, false, v) {
             return false;
         }
         return true;
     }
-    match meets(s, 0, 0, 64, &*room, w.goal, own, false, v) {
+    match meets(s, 0, 0, 64, room, w.goal, own, false, v) {
         Met::Asked => false,
         Met::Past(with, _) => with,
         Met::Nothing => false,
@@ -477,10 +460,10 @@ fn ask<'a>(
 ) -> bool
     ensures { LookingOne (files_of rules.now goal.now terms.now) room.old room.new w own also v height result }
 {
-    if !is_due(&*rules, &*goal, &*terms, room, w, own, also, v) {
+    if !is_due(rules, goal, terms, room, w, own, also, v) {
         return true;
     }
-    prove_goal(&*rules, &*goal, &*terms, room, w, height)
+    prove_goal(rules, goal, terms, room, w, height)
 }
 
 // The frame completed, where only the first k variables may be unset.
@@ -498,12 +481,12 @@ fn fill<'a>(
     ensures { FillingFrom (files_of rules.now goal.now terms.now) room.old room.new w p k left result }
 {
     if k == 0 {
-        return fits(&*rules, &*goal, &*terms, room, w, p);
+        return fits(rules, goal, terms, room, w, p);
     }
     if is_open(room, p.head, p.own, k - 1) {
-        return try_all(&*rules, &*goal, &*terms, room, w, p, k - 1, left);
+        return try_all(rules, goal, terms, room, w, p, k - 1, left);
     }
-    fill(&*rules, &*goal, &*terms, room, w, p, k - 1, left)
+    fill(rules, goal, terms, room, w, p, k - 1, left)
 }
 
 // Variable v with one candidate after the other, but for those that an atom of the body leaves out; if none does, it is unset again.
@@ -522,13 +505,17 @@ fn try_all<'a>(
 {
     let n = candidates(room);
     let mut marks = [0u8; 257];
-    let narrowed = narrow_body(&*rules, &*goal, &*terms, room, w, p, v, left, &mut marks);
-    let mut i = next_left(narrowed, &marks, 0, n);
+    let narrowed = narrow_body(rules, goal, terms, room, w, p, v, left, &mut marks);
+    let mut i: u32 = 0;
     while i < n {
-        if try_one(&*rules, &*goal, &*terms, room, w, p, v, i, left) {
+        if is_left_out(narrowed, &marks, i) {
+            i += 1;
+            continue;
+        }
+        if try_one(rules, goal, terms, room, w, p, v, i, left) {
             return true;
         }
-        i = next_left(narrowed, &marks, i + 1, n);
+        i += 1;
     }
     push(room, word_of(p.head, v), Binding::Candidate(2147483647));
     false
@@ -553,13 +540,13 @@ fn try_one<'a>(
         return false;
     }
     push(room, word_of(p.head, v), Binding::Candidate(i));
-    if !may_fit(&*rules, &*goal, &*terms, room, w, p) {
+    if !may_fit(rules, goal, terms, room, w, p) {
         return false;
     }
-    if !body(&*rules, &*goal, &*terms, room, w, p, true, v, left) {
+    if !body(rules, goal, terms, room, w, p, true, v, left) {
         return false;
     }
-    fill(&*rules, &*goal, &*terms, room, w, p, v, left)
+    fill(rules, goal, terms, room, w, p, v, left)
 }
 
 // Both clauses of an `and`, left before right.
@@ -576,13 +563,13 @@ fn fork<'a>(
 ) -> bool
     ensures { PassingAs W.And (files_of rules.now goal.now terms.now) room.old room.new w x nest left result }
 {
-    let After::Next(n) = past_part(&*rules, &*goal, &*terms, x, 6) else {
+    let After::Next(n) = past_part(rules, goal, terms, x, 6) else {
         return false;
     };
-    if through(&*rules, &*goal, &*terms, room, w, further(x, 6), nest, left) {
+    if through(rules, goal, terms, room, w, further(x, 6), nest, left) {
         return true;
     }
-    through(&*rules, &*goal, &*terms, room, w, further(x, n), nest, left)
+    through(rules, goal, terms, room, w, further(x, n), nest, left)
 }
 
 // The clause of an `all`, with the first candidate for which a path through it ends well.
@@ -602,7 +589,7 @@ fn each<'a>(
     let n = candidates(room);
     let mut i: u32 = 0;
     while i < n {
-        if through_with(&*rules, &*goal, &*terms, room, w, x, i, nest, left) {
+        if through_with(rules, goal, terms, room, w, x, i, nest, left) {
             return true;
         }
         i += 1;
@@ -629,5 +616,5 @@ pub fn through_with<'a>(
         return false;
     }
     push(room, plus(x.base, x.count), Binding::Candidate(i));
-    through(&*rules, &*goal, &*terms, room, w, deeper(x, 6), nest, left)
+    through(rules, goal, terms, room, w, deeper(x, 6), nest, left)
 }

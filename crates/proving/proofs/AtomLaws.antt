@@ -84,80 +84,80 @@ small room k number l rule = go (ltb 0 number) refl
     go false e = let z = ltb-false 0 number e in omega arith
 
 -- where the loop over clauses is: what the place relies on is kept, and none before clause k serves the atom
-abbrev pub FindLeft : Files → List ℕ → Where → ℕ → ℕ → ℕ → ℕ → List ℕ → ℕ → Type 0
-FindLeft f room w predicate key first left now k =
-    (ds : List (Clause Plain)) (us : List Term) (o : List Plain) (c : Hand Plain) (bs : Bindings) (a : Atom) (n : ℕ) →
+abbrev pub FindLeft : Files → List ℕ → Where → ℕ → ℕ → ℕ → List ℕ → ℕ → Type 0
+FindLeft f room w predicate key left now k =
+    (ds : List (Clause Plain)) (us : List Term) (o : List Plain) (c : Hand Plain) (bs : Bindings) (a : Atom) →
     Ready f room ds us w (suc left) o c bs (Goal.atom a) →
-    predicate ≡ predicate_key a → key ≡ atom_key (replaced_atom us bs a) → NextClause room predicate key 0 n first →
+    predicate ≡ predicate_key a → key ≡ atom_key (replaced_atom us bs a) →
     Keeps (Stock f ds us w.supposed c) w.supposed w.top room now × ((j : ℕ) → j < k → does us left o c bs a j ≡ false)
 
-module _ {f : Files} {room : List ℕ} {w : Where} {left predicate key first : ℕ} where
+module _ {f : Files} {room : List ℕ} {w : Where} {left predicate key : ℕ} where
   -- the clauses one after the other, but those that are passed over
-  pub find-start : FindLeft f room w predicate key first left room first
-  find-start ds us o c bs a all r e e' h = (keeps_same room, λ j l. passed_over r e e' h j (omega arith) l)
+  pub find-start : {n k : ℕ} → NextClause room predicate key 0 n k → FindLeft f room w predicate key left room k
+  find-start h ds us o c bs a r e e' = (keeps_same room, λ j l. passed_over r e e' h j (omega arith) l)
 
-  pub find-miss : {now after : List ℕ} {s : Bool} {n m : ℕ} (k : ℕ) → FindLeft f room w predicate key first left now k → length now ≡ length room → length after ≡ length room → ProvingBy f now after w k left s → s ≡ false → NextClause after predicate key (k + 1) n m → FindLeft f room w predicate key first left after m
-  find-miss {now} {after} {m = m} k inv l l' p z h ds us o c bs a all r e e' h' =
-      let (kept, early) = inv ds us o c bs a all r e e' h' in
+  pub find-miss : {now after : List ℕ} {s : Bool} {n m : ℕ} (k : ℕ) → FindLeft f room w predicate key left now k → length now ≡ length room → length after ≡ length room → ProvingBy f now after w k left s → s ≡ false → NextClause after predicate key (k + 1) n m → FindLeft f room w predicate key left after m
+  find-miss {now} {after} {m = m} k inv l l' p z h ds us o c bs a r e e' =
+      let (kept, early) = inv ds us o c bs a r e e' in
       let y = p ds us o c bs a (ready-kept kept l r) in
       let kept' = keeps_then room now after (omega arith) (omega arith) kept y.kept in
       let r' = ready-kept kept' l' r in
       (kept', before-next (does us left o c bs a) k m early (sym y.answer ∙ z) (passed_over r' e e' h))
 
-  pub find-hit : {now after : List ℕ} {s : Bool} (k n : ℕ) → k < n → n ≡ plus (get_or room rules_word 0) w.supposed → FindLeft f room w predicate key first left now k → length now ≡ length room → ProvingBy f now after w k left s → s ≡ true → Finding f room after w predicate key first left k
-  find-hit {now} {after} k n b q inv l p z ds us o c bs a all r e e' h =
-      let (kept, early) = inv ds us o c bs a all r e e' h in
+  pub find-hit : {now after : List ℕ} {s : Bool} (k n : ℕ) → k < n → n ≡ plus (get_or room rules_word 0) w.supposed → FindLeft f room w predicate key left now k → length now ≡ length room → ProvingBy f now after w k left s → s ≡ true → Finding f room after w predicate key left k
+  find-hit {now} {after} k n b q inv l p z ds us o c bs a r e e' =
+      let (kept, early) = inv ds us o c bs a r e e' in
       let y = p ds us o c bs a (ready-kept kept l r) in
       record { kept = keeps_then room now after (omega arith) (omega arith) kept y.kept; few = omega (arith, at-hand r); before = early; here = λ m. sym y.answer ∙ z }
 
-  pub find-done : {now : List ℕ} (k n : ℕ) → n ≤ k → n ≡ plus (get_or room rules_word 0) w.supposed → FindLeft f room w predicate key first left now k → Finding f room now w predicate key first left n
-  find-done k n b q inv ds us o c bs a all r e e' h =
-      let (kept, early) = inv ds us o c bs a all r e e' h in
+  pub find-done : {now : List ℕ} (k n : ℕ) → n ≤ k → n ≡ plus (get_or room rules_word 0) w.supposed → FindLeft f room w predicate key left now k → Finding f room now w predicate key left n
+  find-done k n b q inv ds us o c bs a r e e' =
+      let (kept, early) = inv ds us o c bs a r e e' in
       record { kept = kept; few = omega (arith, at-hand r); before = λ j l. early j (omega arith); here = λ m. absurd (omega (arith, at-hand r)) }
 
   -- what was found decides, and may be kept
-  pub decide-none : {mid after : List ℕ} {k n height : ℕ} (at : ℕ) → Finding f room mid w predicate key first left k → length mid ≡ length room → n ≡ plus (get_or mid rules_word 0) w.supposed → n ≤ k → height ≡ plus left 1 → TableOnly mid after → table.Keeps f mid after w height at false 0 → Deciding f room after w predicate key first at left false
-  decide-none {mid} {after} {height = height} at p l q b e only kp ds us o c bs a all r n n' h z =
-      let x = p ds us o c bs a all r n n' h in
+  pub decide-none : {mid after : List ℕ} {k n height : ℕ} (at : ℕ) → Finding f room mid w predicate key left k → length mid ≡ length room → n ≡ plus (get_or mid rules_word 0) w.supposed → n ≤ k → height ≡ plus left 1 → TableOnly mid after → table.Keeps f mid after w height at false 0 → Deciding f room after w predicate key at left false
+  decide-none {mid} {after} {height = height} at p l q b e only kp ds us o c bs a r n n' z =
+      let x = p ds us o c bs a r n n' in
       let r' = ready-kept x.kept l r in
       let so = none-does us left o c bs a (λ j m. x.before j (omega (arith, at-hand r'))) in
       record { kept = keeps_then room mid after (omega arith) (omega arith) x.kept (keeps_entry r' height at 0 (omega (arith, r.enough.supposed)) z so (omega arith) (λ y l. absurd (omega arith)) only kp); answer = sym so }
 
-  pub decide-fact : {mid : List ℕ} {k n : ℕ} (at : ℕ) → Finding f room mid w predicate key first left k → length mid ≡ length room → n ≡ plus (get_or mid rules_word 0) w.supposed → k < n → Deciding f room mid w predicate key first at left true
-  decide-fact {k = k} at p l q b ds us o c bs a all r n n' h z =
-      let x = p ds us o c bs a all r n n' h in
+  pub decide-fact : {mid : List ℕ} {k n : ℕ} (at : ℕ) → Finding f room mid w predicate key left k → length mid ≡ length room → n ≡ plus (get_or mid rules_word 0) w.supposed → k < n → Deciding f room mid w predicate key at left true
+  decide-fact {k = k} at p l q b ds us o c bs a r n n' z =
+      let x = p ds us o c bs a r n n' in
       let m : k < length c = omega (arith, at-hand (ready-kept x.kept l r)) in
       record { kept = x.kept; answer = sym (one-does us left o c bs a k m (x.here m)) }
 
-  pub decide-some : {mid after : List ℕ} {k n height number : ℕ} (at : ℕ) → Finding f room mid w predicate key first left k → LocatingFirst f room mid w predicate key first left k → length mid ≡ length room → n ≡ plus (get_or mid rules_word 0) w.supposed → k < n → height ≡ plus left 1 → RuleNumber mid k number → TableOnly mid after → table.Keeps f mid after w height at true number → Deciding f room after w predicate key first at left true
-  decide-some {mid} {after} {k} {height = height} {number = number} at p located l q b e rule only kp ds us o c bs a all r n n' h z =
-      let x = p ds us o c bs a all r n n' h in
+  pub decide-some : {mid after : List ℕ} {k n height number : ℕ} (at : ℕ) → Finding f room mid w predicate key left k → LocatingFirst f room mid w predicate key left k → length mid ≡ length room → n ≡ plus (get_or mid rules_word 0) w.supposed → k < n → height ≡ plus left 1 → RuleNumber mid k number → TableOnly mid after → table.Keeps f mid after w height at true number → Deciding f room after w predicate key at left true
+  decide-some {mid} {after} {k} {height = height} {number = number} at p located l q b e rule only kp ds us o c bs a r n n' z =
+      let x = p ds us o c bs a r n n' in
       let r' = ready-kept x.kept l r in
       let m : k < length c = omega (arith, at-hand r') in
       let so = one-does us left o c bs a k m (x.here m) in
       let counted = r'.place.booked.rules.counted in
       let by : 0 < number → (i : ℕ) → Chooses us left o c (replaced_atom us bs a) (number - 1) (words_in mid w.top i) = λ y i.
       subst (λ (j : ℕ). Chooses us left o c (replaced_atom us bs a) j (words_in mid w.top i)) {x = k} {y = number - 1} (omega (arith, (rule y).1))
-      (chooses mid w.top k i m (λ h there. (r'.place.hand.rule k h (omega (arith, (rule y).0)) there).0) x.before (x.here m) (located ds us o c bs a all r n n' h)) in
+      (chooses mid w.top k i m (λ h there. (r'.place.hand.rule k h (omega (arith, (rule y).0)) there).0) x.before (x.here m) (located ds us o c bs a r n n')) in
       record { kept = keeps_then room mid after (omega arith) (omega arith) x.kept (keeps_entry r' height at number (omega (arith, r.enough.supposed)) z so (small mid k number (omega (arith, counted, r'.place.booked.rules.few)) rule) (λ y. by) only kp); answer = sym so }
 
   -- an atom that no clause can serve, and one that is decided
-  pub atom-barred : (n : ℕ) → PredicateKeyAt f w.goal predicate → AtomKeyAt f room w.goal key → n ≡ plus (get_or room rules_word 0) w.supposed → NextClause room predicate key 0 n first → n ≤ first → ProvingAs W.Atom f room room w left false
-  atom-barred n p q e h b ds us o c bs g t =
+  pub atom-barred : (n k : ℕ) → PredicateKeyAt f w.goal predicate → AtomKeyAt f room w.goal key → n ≡ plus (get_or room rules_word 0) w.supposed → NextClause room predicate key 0 n k → n ≤ k → ProvingAs W.Atom f room room w left false
+  atom-barred n k p q e h b ds us o c bs g t =
       let (a, u) = goal-is g t in
       subst (Claim f room room ds us w (suc left) o c bs false) (sym u)
       (λ r.
       let (m, m') = numbers r predicate key p q in
-      let (kept, early) = find-start ds us o c bs a n r m m' h in
+      let (kept, early) = find-start h ds us o c bs a r m m' in
       record { kept = kept; answer = sym (none-does us left o c bs a (λ j l. early j (omega (arith, at-hand r)))) })
 
-  pub atom-decided : {after : List ℕ} {s : Bool} (n at : ℕ) → PredicateKeyAt f w.goal predicate → AtomKeyAt f room w.goal key → NextClause room predicate key 0 n first → at % 16 ≡ 0 → Deciding f room after w predicate key first at left s → ProvingAs W.Atom f room after w left s
-  atom-decided {after} {s} n at p q h z d ds us o c bs g t =
+  pub atom-decided : {after : List ℕ} {s : Bool} (at : ℕ) → PredicateKeyAt f w.goal predicate → AtomKeyAt f room w.goal key → at % 16 ≡ 0 → Deciding f room after w predicate key at left s → ProvingAs W.Atom f room after w left s
+  atom-decided {after} {s} at p q z d ds us o c bs g t =
       let (a, u) = goal-is g t in
       subst (Claim f room after ds us w (suc left) o c bs s) (sym u)
       (λ r.
       let (m, m') = numbers r predicate key p q in
-      d ds us o c bs a n r m m' h z)
+      d ds us o c bs a r m m' z)
 
 -- an atom that the table has
 pub atom-recalled : {f : Files} {room : List ℕ} {w : Where} {left height : ℕ} (at : ℕ) (k : Recalled) (s : Bool) → height ≡ plus left 1 → at % 16 ≡ 0 → Recalls f room w height at k → ((b : Bool) → Says b k → b ≡ s) → ProvingAs W.Atom f room room w left s

@@ -18,9 +18,7 @@ pub mod AtomLaws
 pub mod PassingLaws
 pub mod PlainLaws
 pub mod PartsLaws
-pub mod QuantifierLaws
 pub mod SettleLaws
 pub mod ChainLaws
 pub mod FillLaws
 pub mod LocatingLaws
-pub mod StandingLaws

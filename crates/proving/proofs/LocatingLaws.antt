@@ -76,9 +76,9 @@ pub located-no-some : {f : Files} {room after : List ℕ} {w : Where} {left : �
 located-no-some y = absurd (false≢true y)
 
 -- the first clause that serves, by its number; past the last there is none
-module _ {f : Files} {room now : List ℕ} {w : Where} {predicate key first left : ℕ} where
-  pub located-hit : {after : List ℕ} {s : Bool} (k : ℕ) → FindLeft f room w predicate key first left now k → length now ≡ length room → (s ≡ true → LocatingAt f now after w left k) → s ≡ true → LocatingFirst f room after w predicate key first left k
-  located-hit k inv l p z ds us o c bs a all r e e' h = p z ds us o c bs a (ready-kept (inv ds us o c bs a all r e e' h).0 l r)
+module _ {f : Files} {room now : List ℕ} {w : Where} {predicate key left : ℕ} where
+  pub located-hit : {after : List ℕ} {s : Bool} (k : ℕ) → FindLeft f room w predicate key left now k → length now ≡ length room → (s ≡ true → LocatingAt f now after w left k) → s ≡ true → LocatingFirst f room after w predicate key left k
+  located-hit k inv l p z ds us o c bs a r e e' = p z ds us o c bs a (ready-kept (inv ds us o c bs a r e e').0 l r)
 
-  pub located-none : (n : ℕ) → n ≡ plus (get_or room rules_word 0) w.supposed → LocatingFirst f room now w predicate key first left n
-  located-none n q ds us o c bs a all r e e' k h there plain = absurd (omega (arith, at-hand r, member_below c n h there))
+  pub located-none : (n : ℕ) → n ≡ plus (get_or room rules_word 0) w.supposed → LocatingFirst f room now w predicate key left n
+  located-none n q ds us o c bs a r e e' h there plain = absurd (omega (arith, at-hand r, member_below c n h there))

@@ -1,5 +1,5 @@
 -- A clause taken apart by its words, as far as one head: what each answer of `parts_of` says (document 01, the table of words).
-use Prim.Native.Nat.{ℕ, ◌+◌, ◌≤◌}
+use Prim.Native.Nat.{ℕ, ◌+◌, ◌-◌, ◌≤◌, ◌<◌}
 use native.Mathlib.Omega.{arith}
 use mathlib.Core.Path.{◌≡◌, refl, sym, ◌∙◌, ap, subst}
 use mathlib.Core.Bool.{Bool, true, false, not, false≢true}
@@ -32,18 +32,19 @@ use Rattle.room.proofs.WhereLaws.{plus-inside}
 use Rattle.heads.specs.Heads.{clause_word}
 use Rattle.heads.specs.Predicate.{bytes_at, ClauseThere}
 use Rattle.heads.proofs.HeadLaws.{clause-says, clause-is, heads, first_part, second-found, first_found}
-use Rattle.proving.specs.Parts.{is_plain, moved_to, HeadSaid, Behind, HeadBehind, PartsAt, PartsFrom, Bare, PartsOf, ClauseParts, PlainAt}
+use Rattle.proving.specs.Hand.{deeper}
+use Rattle.proving.specs.Parts.{is_plain, moved_to, HeadSaid, Behind, HeadBehind, PartsAt, PartsFrom, PartsOf, ClauseParts, PlainAt}
 use Rattle.proving.specs.declared.plain.Parts.{Parts}
 
 -- what is claimed of a clause: whether it has one head, and then its parts
-abbrev pub Claim : Files → Spot → Bool → ℕ → ℕ → ℕ → Parts → Clause Plain → Type 0
+abbrev Claim : Files → Spot → Bool → ℕ → ℕ → ℕ → Parts → Clause Plain → Type 0
 Claim f x known at own nest r d =
     nesting (clause_sexp d) ≤ nest → ClauseThere f x d → x.count + nest ≤ most_bytes → own + nest ≤ most_bytes
     → (r.found ≡ is_plain d) × ((known ≡ true → HeadSaid f x at d) → r.found ≡ true → PartsAt f x own d r)
 
--- the places of the words that stand before no clause with one head and no quantifier
+-- the places of the words that stand before no clause with one head
 abbrev others : List ℕ
-others = 0 ∷ 1 ∷ 2 ∷ 4 ∷ 5 ∷ 6 ∷ 7 ∷ 8 ∷ 10 ∷ 11 ∷ 12 ∷ 13 ∷ 14 ∷ 15 ∷ []
+others = 0 ∷ 1 ∷ 2 ∷ 4 ∷ 5 ∷ 6 ∷ 7 ∷ 10 ∷ 11 ∷ 12 ∷ 13 ∷ 14 ∷ 15 ∷ []
 
 one_of : (ks : List ℕ) (n : ℕ) → OneOf ks n → out ks n ≡ true → ⊥
 one_of [] n h o = h
@@ -75,10 +76,10 @@ module _ {f : Files} {x : Spot} {known : Bool} {at own nest : ℕ} {r : Parts} w
         parts = λ d l t a b said y. absurd (false≢true (sym n.0 ∙ y));
       }
 
-  -- a clause that is an `and`, where none begins with a quantifier; none has another word
-  pub parts-other : (k : Word) → WordAt (drop x.at (bytes_at f x)) 1 k → OneOf others (tag_of the_type k) → (r.found ≡ false) × (r.own ≡ 0) → Bare f x → PartsFrom f x known at own nest r
+  -- a clause that is an `and`; none has another word
+  pub parts-other : (k : Word) → WordAt (drop x.at (bytes_at f x)) 1 k → OneOf others (tag_of the_type k) → (r.found ≡ false) × (r.own ≡ 0) → PartsFrom f x known at own nest r
   unfolding clause_word
-  parts-other k q h n bare = by_word k q (omega (arith, n.1)) go
+  parts-other k q h n = by_word k q (omega (arith, n.1)) go
     where
       no : (w : Word) → out others (tag_of the_type w) ≡ true → w ≡ k → ⊥
       no w o e = one_of others (tag_of the_type w) (subst (λ (z : Word). OneOf others (tag_of the_type z)) (sym e) h) o
@@ -86,7 +87,7 @@ module _ {f : Files} {x : Spot} {known : Bool} {at own nest : ℕ} {r : Parts} w
       go : (d : Clause Plain) → clause_word d ≡ k → Claim f x known at own nest r d
       go (Clause.atom_d a) e = absurd (no W.Atom refl e)
       go (Clause.imp_d g a) e = absurd (no W.Imp refl e)
-      go (Clause.all_d y d) e = λ l t a b. absurd (bare y d t)
+      go (Clause.all_d y d) e = absurd (no W.All refl e)
       go (Clause.and_d c d) e = none_found f x known at own nest r (Clause.and_d c d) n.0 refl
 
 -- an atom
@@ -143,13 +144,9 @@ parts-imp {f} {x} {u} {v} {known} {at} {own} {nest} {m} k q e p z i j = by_word 
           },
     ))
 
--- what stands further on in the same file, in a larger frame
-abbrev pub onward : Spot → ℕ → ℕ → Spot
-onward x i j = record { source = x.source; at = i; base = x.base; count = j }
-
 -- a quantifier: the parts of the clause inside, with one variable more
-inner-parts : {f : Files} {x : Spot} {own : ℕ} {q : Plain} {d : Clause Plain} {r : Parts} → PartsAt f (onward x (x.at + 6) (x.count + 1)) (own + 1) d r → PartsAt f x own (Clause.all_d q d) r
-inner-parts t =
+inner-parts : {f : Files} {x : Spot} {own m : ℕ} {q : Plain} {d : Clause Plain} {r : Parts} → m ≡ own + 1 → x.count < most_bytes → PartsAt f (deeper x 6) m d r → PartsAt f x own (Clause.all_d q d) r
+inner-parts e s t =
     record {
       headed = t.headed;
       own = omega (arith, t.own);
@@ -158,16 +155,20 @@ inner-parts t =
       stands = t.stands;
     }
 
-pub all-claim : {f : Files} {x : Spot} {known : Bool} {at own nest : ℕ} {r : Parts} (q : Plain) (d : Clause Plain) → Claim f (onward x (x.at + 6) (x.count + 1)) known at (own + 1) nest r d → Claim f x known at own (nest + 1) r (Clause.all_d q d)
-all-claim {f} {x} q d p l t s u =
-    let there : ClauseThere f (onward x (x.at + 6) (x.count + 1)) d =
+pub parts_all : {f : Files} {x y : Spot} {known : Bool} {at own nest m : ℕ} {r : Parts} (k : Word) → (nest ≡ 0 → ⊥) → WordAt (drop x.at (bytes_at f x)) 1 k → k ≡ W.All → y ≡ deeper x 6 → m ≡ plus own 1 → PartsFrom f y known at m (nest - 1) r → PartsFrom f x known at own nest r
+parts_all {f} {x} {y} {known} {at} {own} {nest} {m} {r} k z q e i j p = by_word k q (omega (arith, p.few)) λ d h.
+    let (o, b, n) = clause-is d (h ∙ e) in
+    let p' = subst (λ (s : Spot). PartsFrom f s known at m (nest - 1) r) i p in
+    subst (Claim f x known at own nest r) (sym n)
+    (λ l t s u.
+    let st = first_part (octets "all") heads.1.1.1.0 t.stands in
+    let there : ClauseThere f (deeper x 6) b =
     record {
-      stands = first_part (octets "all") heads.1.1.1.0 t.stands;
+      stands = subst (λ (w : ℕ). Stands (bytes_at f x) w (clause_sexp b)) (sym (plus-inside (bytes_at f x) x.at 6 t.small st)) st;
       shallow = omega (arith, t.shallow);
       small = t.small;
     } in
-    let (told, parts) = p (omega arith) there (omega arith) (omega arith) in
-    (told, λ said w. inner-parts (parts said w))
+    (p'.told b (omega arith) there (omega arith) (omega arith), λ said w. inner-parts (omega arith) (omega arith) (p'.parts b (omega arith) there (omega arith) (omega arith) said w)))
 
 -- nothing is known of the head
 pub parts_whole : {f : Files} {x : Spot} {own nest : ℕ} {r : Parts} → PartsFrom f x false 0 own nest r → PartsOf f x own nest r

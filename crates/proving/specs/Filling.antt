@@ -19,7 +19,6 @@ use Rattle.room.specs.declared.Spot.{Spot}
 use Rattle.room.specs.declared.Where.{Where}
 use Rattle.heads.specs.Heads.{goal_word}
 use Rattle.keys.specs.Key.{atom_key, predicate_key}
-use Rattle.keys.specs.Keys.{NextClause}
 use Rattle.mentions.specs.Open.{unset, is_open, asked, Becomes}
 use Rattle.mentions.specs.Mentions.{mentions_goal}
 use Rattle.unset.specs.declared.Likeness.{Likeness}
@@ -327,10 +326,10 @@ LocatingSome f room after w left =
     Ready f room ds us w (suc left) o c bs g →
     Located us (suc left - chain g) o c bs headless (chain g) (Clause.imp_d (inside g) headless) bs after w.top
 
--- the same where the numbers of the atom and of its predicate are known, and by them the first clause that may serve it
-abbrev pub LocatingFirst : Files → List ℕ → List ℕ → Where → ℕ → ℕ → ℕ → ℕ → ℕ → Type 0
-LocatingFirst f room after w predicate key first left k =
-    (ds : List (Clause Plain)) (us : List Term) (o : List Plain) (c : Hand Plain) (bs : Bindings) (a : Atom) (n : ℕ) →
+-- the same where the numbers of the atom and of its predicate are known
+abbrev pub LocatingFirst : Files → List ℕ → List ℕ → Where → ℕ → ℕ → ℕ → ℕ → Type 0
+LocatingFirst f room after w predicate key left k =
+    (ds : List (Clause Plain)) (us : List Term) (o : List Plain) (c : Hand Plain) (bs : Bindings) (a : Atom) →
     Ready f room ds us w (suc left) o c bs (Goal.atom a) →
-    predicate ≡ predicate_key a → key ≡ atom_key (replaced_atom us bs a) → NextClause room predicate key 0 n first →
+    predicate ≡ predicate_key a → key ≡ atom_key (replaced_atom us bs a) →
     LocatedAt us left o c bs a w.top after k

@@ -7,5 +7,4 @@ pub mod First
 pub mod Stock
 pub mod Proving
 pub mod Filling
-pub mod Standing
 pub mod Matching

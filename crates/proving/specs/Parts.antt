@@ -1,13 +1,12 @@
 -- A clause with no `and` on the way to its head, by its parts: how many quantifiers it has, and what stands inside them, an atom or a goal that implies an atom.
-use Rattle.std.specs.Prelude.{ℕ, suc, ◌+◌, ◌-◌, ◌*◌, ◌≤◌, ◌<◌, ◌≡◌, Bool, true, false, List, ltb, length, get_or}
+use Rattle.std.specs.Prelude.{ℕ, suc, ◌+◌, ◌-◌, ◌≤◌, ◌<◌, ◌≡◌, Bool, true, false, List, ltb, length, get_or}
 use Rattle.std.proofs.Math.Option.{some}
 use Rattle.basics.specs.Choice.{choose}
-use Rattle.basics.specs.Text.{octets}
 use Rattle.harrop.specs.Formula.{Atom, Goal, Clause}
 use Rattle.harrop.specs.Place.{Plain}
 use Rattle.sexp.specs.declared.skip.After.{After}
 use Rattle.sexp.specs.declared.skip.After.TheVariants as A
-use Rattle.sexp.specs.Sexp.{str, Stands, nesting}
+use Rattle.sexp.specs.Sexp.{Stands, nesting}
 use Rattle.packet.specs.Written.{atom_sexp, goal_sexp, clause_sexp}
 use Rattle.packet.specs.File.{most_bytes}
 use Rattle.room.specs.Layout.{levels, rules_word}
@@ -85,21 +84,6 @@ pub record PartsOf (f : Files) (x : Spot) (own nest : ℕ) (r : Parts) : Type 0 
   pub few : r.own ≤ own + nest
   pub told : (d : Clause Plain) → nesting (clause_sexp d) ≤ nest → ClauseThere f x d → x.count + nest ≤ most_bytes → own + nest ≤ most_bytes → r.found ≡ is_plain d
   pub parts : (d : Clause Plain) → nesting (clause_sexp d) ≤ nest → ClauseThere f x d → x.count + nest ≤ most_bytes → own + nest ≤ most_bytes → r.found ≡ true → PartsAt f x own d r
-
--- bytes begin with so many `all`, each the first part of the one before, and with no more of them unless these are the most that were looked for
-pub record Quantified (s : List ℕ) (most n : ℕ) : Type 0 where
-  pub few : n ≤ most
-  pub short : 6 * n ≤ 18446744073709551615
-  pub alls : (i : ℕ) → i < n → Stands s (6 * i + 1) (str (octets "all"))
-  pub last : n < most → Stands s (6 * n + 1) (str (octets "all")) → ⊥
-
--- no clause that begins with a quantifier stands at a spot
-abbrev pub Bare : Files → Spot → Type 0
-Bare f x = (q : Plain) (d : Clause Plain) → ClauseThere f x (Clause.all_d q d) → ⊥
-
--- the parts of the clause at a spot where none begins with a quantifier, however deep it nests
-abbrev pub PartsHere : Files → Spot → Bool → ℕ → ℕ → Parts → Type 0
-PartsHere f x known at own r = (nest : ℕ) → Bare f x → PartsFrom f x known at own nest r
 
 -- the parts of clause k at a spot, if the room is right on where the heads of rules stand
 pub record ClauseParts (f : Files) (room : List ℕ) (k : ℕ) (x : Spot) (r : Parts) : Type 0 where

@@ -17,7 +17,7 @@ use Rattle.proving.specs.Provable as provable
 pub use Rattle.proving.specs.Provable.{passes}
 use Rattle.heads.specs.Heads.{goal_word, clause_word}
 use Rattle.keys.specs.Key.{atom_key, predicate_key}
-use Rattle.keys.specs.Keys.{key_word, NextClause}
+use Rattle.keys.specs.Keys.{key_word}
 use Rattle.proving.specs.Stock.{Stock, Keeps}
 
 -- what is given where a goal is searched: the place, enough of the room for the height, below what the search keeps there, and that this is right
@@ -73,20 +73,20 @@ pub record Finds (right : List ℕ → Type 0) (supposed top : ℕ) (room after 
   pub before : (j : ℕ) → j < r → does j ≡ false
   pub here : r < all → does r ≡ true
 
--- where the numbers of the atom and of its predicate are known, and by them the first clause, of some number of clauses, that may serve it
-abbrev pub Finding : Files → List ℕ → List ℕ → Where → ℕ → ℕ → ℕ → ℕ → ℕ → Type 0
-Finding f room after w predicate key first left r =
-    (ds : List (Clause Plain)) (us : List Term) (o : List Plain) (c : Hand Plain) (bs : Bindings) (a : Atom) (n : ℕ) →
+-- where the numbers of the atom and of its predicate are known
+abbrev pub Finding : Files → List ℕ → List ℕ → Where → ℕ → ℕ → ℕ → ℕ → Type 0
+Finding f room after w predicate key left r =
+    (ds : List (Clause Plain)) (us : List Term) (o : List Plain) (c : Hand Plain) (bs : Bindings) (a : Atom) →
     Ready f room ds us w (suc left) o c bs (Goal.atom a) →
-    predicate ≡ predicate_key a → key ≡ atom_key (replaced_atom us bs a) → NextClause room predicate key 0 n first →
+    predicate ≡ predicate_key a → key ≡ atom_key (replaced_atom us bs a) →
     Finds (Stock f ds us w.supposed c) w.supposed w.top room after (length c) (provable.clause_does (listed us) o c (provable.serves (listed us) left o c bs a)) r
 
 -- whether an atom has a proof, which the table is to keep in a slot
-abbrev pub Deciding : Files → List ℕ → List ℕ → Where → ℕ → ℕ → ℕ → ℕ → ℕ → Bool → Type 0
-Deciding f room after w predicate key first at left r =
-    (ds : List (Clause Plain)) (us : List Term) (o : List Plain) (c : Hand Plain) (bs : Bindings) (a : Atom) (n : ℕ) →
+abbrev pub Deciding : Files → List ℕ → List ℕ → Where → ℕ → ℕ → ℕ → ℕ → Bool → Type 0
+Deciding f room after w predicate key at left r =
+    (ds : List (Clause Plain)) (us : List Term) (o : List Plain) (c : Hand Plain) (bs : Bindings) (a : Atom) →
     Ready f room ds us w (suc left) o c bs (Goal.atom a) →
-    predicate ≡ predicate_key a → key ≡ atom_key (replaced_atom us bs a) → NextClause room predicate key 0 n first → at % 16 ≡ 0 →
+    predicate ≡ predicate_key a → key ≡ atom_key (replaced_atom us bs a) → at % 16 ≡ 0 →
     Answers (Stock f ds us w.supposed c) w.supposed w.top room after (provable.provable (listed us) (suc left) o c bs (Goal.atom a)) r
 
 -- whether a path through a clause ends well

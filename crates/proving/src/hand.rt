@@ -25,23 +25,23 @@ pub(crate) fn word(room: &[u32], i: usize) -> u32
 pub fn candidates(room: &[u32]) -> u32
     ensures { result ≡ get_or room.now candidates_word 0 }
 {
-    word(&*room, 257)
+    word(room, 257)
 }
 
 // How many clauses are at hand.
 pub fn clauses(room: &[u32], supposes: usize) -> usize
     ensures { result ≡ places.plus (get_or room.now rules_word 0) supposes }
 {
-    plus(word(&*room, 0) as usize, supposes)
+    plus(word(room, 0) as usize, supposes)
 }
 
 // Where clause k stands: a rule, or one of those that are supposed.
 pub fn at_hand(room: &[u32], k: usize, supposes: usize) -> Chosen
     ensures { result ≡ clause_in room.now k supposes }
 {
-    let rules = word(&*room, 0) as usize;
+    let rules = word(room, 0) as usize;
     if k < rules {
-        let at = word(&*room, 1 + k) as usize;
+        let at = word(room, 1 + k) as usize;
         let x = Spot {
             source: Source::Rules,
             at: at,
@@ -51,7 +51,7 @@ pub fn at_hand(room: &[u32], k: usize, supposes: usize) -> Chosen
         return Chosen::Clause(x);
     }
     if k - rules < supposes {
-        return Chosen::Clause(supposed(&*room, k - rules));
+        return Chosen::Clause(supposed(room, k - rules));
     }
     Chosen::Nothing
 }
@@ -60,8 +60,8 @@ pub fn at_hand(room: &[u32], k: usize, supposes: usize) -> Chosen
 pub fn is_fact(rules: &[u8], room: &[u32], k: usize) -> bool
     ensures { Tells result (WordAt rules.now (places.plus (get_or room.now (places.plus 1 k) 0) 1) W.Atom) }
 {
-    let at = word(&*room, plus(1, k)) as usize;
-    match word_at(&*rules, plus(at, 1)) {
+    let at = word(room, plus(1, k)) as usize;
+    match word_at(rules, plus(at, 1)) {
         Word::Atom => true,
         _ => false,
     }
@@ -71,7 +71,7 @@ pub fn is_fact(rules: &[u8], room: &[u32], k: usize) -> bool
 pub fn rule_number(room: &[u32], k: usize) -> usize
     ensures { RuleNumber room.now k result }
 {
-    let n = word(&*room, 0) as usize;
+    let n = word(room, 0) as usize;
     if k < n {
         return k + 1;
     }

@@ -27,7 +27,7 @@ fn force<'a>(
 ) -> Likeness
     ensures { MatchingVariable (files_of rules.now goal.now terms.now) room.old room.new w p v y result }
 {
-    match candidate_at(&*rules, &*goal, &*terms, room, y) {
+    match candidate_at(rules, goal, terms, room, y) {
         Forced::Nothing => Likeness::Never,
         Forced::Never => Likeness::Never,
         Forced::Candidate(c) => {
@@ -53,9 +53,9 @@ fn match_term<'a>(
 ) -> Likeness
     ensures { Matching (files_of rules.now goal.now terms.now) room.old room.new w p x y result }
 {
-    match open_at(&*rules, &*goal, &*terms, room, x, p.own) {
-        Value::Is(v) => force(&*rules, &*goal, &*terms, room, w, p, v, y),
-        Value::Nothing => compare(&*rules, &*goal, &*terms, room, x, y, p.own),
+    match open_at(rules, goal, terms, room, x, p.own) {
+        Value::Is(v) => force(rules, goal, terms, room, w, p, v, y),
+        Value::Nothing => compare(rules, goal, terms, room, x, y, p.own),
     }
 }
 
@@ -109,8 +109,8 @@ fn match_head<'a>(
     let y = w.goal;
     let a = x.source;
     let b = y.source;
-    let s = part(&*rules, &*goal, &*terms, a, x.at);
-    let t = part(&*rules, &*goal, &*terms, b, y.at);
+    let s = part(rules, goal, terms, a, x.at);
+    let t = part(rules, goal, terms, b, y.at);
     if !same_text(s, 7, t, 7) {
         return Likeness::Never;
     }
@@ -155,7 +155,7 @@ pub fn meet<'a>(
     if !p.headed {
         return Going::On(p);
     }
-    match match_head(&*rules, &*goal, &*terms, room, w, p) {
+    match match_head(rules, goal, terms, room, w, p) {
         Likeness::Never => Going::Never,
         Likeness::Open => Going::On(p),
         Likeness::Same => Going::On(compared(p)),

@@ -1,9 +1,8 @@
 // A clause with no `and` on the way to its one head, searched for an atom: its own variables are unset at first, those that the atom forces are set, and the others get one candidate after the other.
 // A goal of the body is looked at as soon as its variables are set, and only then (document 02, Three: no verdict and no strip changes). How the atom forces variables is in src/matching.
-ghost use Rattle.room.specs.Spot.{file_of};
 ghost use Rattle.room.specs.Where.{files_of};
-ghost use Rattle.std.specs.Prelude.{drop, false, ◌≡◌};
-ghost use Rattle.proving.specs.Parts.{moved_to, HeadBehind, Quantified, PartsHere, PartsFrom, PartsOf, ClauseParts, PlainAt, variable_word, body_place, with_head};
+ghost use Rattle.std.specs.Prelude.{false, ◌≡◌};
+ghost use Rattle.proving.specs.Parts.{moved_to, HeadBehind, PartsFrom, PartsOf, ClauseParts, PlainAt, variable_word, body_place, with_head};
 ghost use Rattle.proving.specs.Chain.{inside_at, ChainOf};
 ghost use Rattle.proving.specs.Filling.{Unsets, MayFit, Fits};
 
@@ -12,8 +11,8 @@ use equal::same_atoms;
 use harrop::Binding;
 use packet::Word;
 use places::{further, past_part, plus, word_there};
-use room::{Spot, Where, part, push};
-use sexp::{After, is_word};
+use room::{Spot, Where, push};
+use sexp::After;
 use unset::may_be;
 
 // Such a clause: how many variables of its own it has, whether it has a body, whether its head is to be compared, and where body and head stand, in the frame of all its variables. The goal inside a chain of `some` is searched like the body of one, with no head to compare.
@@ -86,66 +85,10 @@ fn head_behind<'a>(
     if known {
         return After::Next(at);
     }
-    let After::Next(n) = past_part(&*rules, &*goal, &*terms, x, 6) else {
+    let After::Next(n) = past_part(rules, goal, terms, x, 6) else {
         return After::Nothing;
     };
     After::Next(plus(x.at, n))
-}
-
-// How many quantifiers a clause begins with, at most so many. A clause has up to 64, and a call for each would hand on the three files each time.
-fn quantifiers<'a>(rules: &'a [u8], goal: &'a [u8], terms: &'a [u8], x: Spot, most: usize) -> usize
-    ensures { Quantified (drop x.at (file_of rules.now goal.now terms.now x.source)) most result }
-{
-    let source = x.source;
-    let s = part(&*rules, &*goal, &*terms, source, x.at);
-    let mut n = 0;
-    let mut p = 1;
-    while n < most {
-        if !is_word(s, p, b"all") {
-            return n;
-        }
-        n += 1;
-        p += 6;
-    }
-    n
-}
-
-// The parts of a clause at a spot, which begins with no quantifier.
-fn parts_at<'a>(
-    rules: &'a [u8],
-    goal: &'a [u8],
-    terms: &'a [u8],
-    x: Spot,
-    known: bool,
-    at: usize,
-    own: usize,
-) -> Parts
-    ensures { PartsHere (files_of rules.now goal.now terms.now) x known at own result }
-{
-    match word_there(&*rules, &*goal, &*terms, x) {
-        Word::Atom => Parts {
-            found: true,
-            own,
-            body: false,
-            headed: true,
-            goal: x,
-            head: x,
-        },
-        Word::Imp => {
-            let After::Next(n) = head_behind(&*rules, &*goal, &*terms, x, known, at) else {
-                return no_parts(x);
-            };
-            Parts {
-                found: true,
-                own,
-                body: true,
-                headed: true,
-                goal: further(x, 6),
-                head: moved(x, n),
-            }
-        }
-        _ => no_parts(x),
-    }
 }
 
 // The parts of the clause at a spot; where its head is known to stand, its body is not walked over.
@@ -161,18 +104,43 @@ fn parts_from<'a>(
 ) -> Parts
     ensures { PartsFrom (files_of rules.now goal.now terms.now) x known at own nest result }
 {
-    let n = quantifiers(&*rules, &*goal, &*terms, x, nest);
-    if n == nest {
+    if nest == 0 {
         return no_parts(x);
     }
-    let source = x.source;
-    let y = Spot {
-        source: source,
-        at: plus(x.at, 6 * n),
-        base: x.base,
-        count: plus(x.count, n),
-    };
-    parts_at(&*rules, &*goal, &*terms, y, known, at, plus(own, n))
+    match word_there(rules, goal, terms, x) {
+        Word::Atom => Parts {
+            found: true,
+            own,
+            body: false,
+            headed: true,
+            goal: x,
+            head: x,
+        },
+        Word::Imp => {
+            let After::Next(n) = head_behind(rules, goal, terms, x, known, at) else {
+                return no_parts(x);
+            };
+            Parts {
+                found: true,
+                own,
+                body: true,
+                headed: true,
+                goal: further(x, 6),
+                head: moved(x, n),
+            }
+        }
+        Word::All => parts_from(
+            rules,
+            goal,
+            terms,
+            deeper(x, 6),
+            known,
+            at,
+            plus(own, 1),
+            nest - 1,
+        ),
+        _ => no_parts(x),
+    }
 }
 
 // The parts of the clause at a spot.
@@ -186,7 +154,7 @@ pub fn parts_of<'a>(
 ) -> Parts
     ensures { PartsOf (files_of rules.now goal.now terms.now) x own nest result }
 {
-    parts_from(&*rules, &*goal, &*terms, x, false, 0, own, nest)
+    parts_from(rules, goal, terms, x, false, 0, own, nest)
 }
 
 // The parts of clause k at its spot. Of a rule the room says where its head stands.
@@ -200,16 +168,16 @@ pub fn clause_parts<'a>(
 ) -> Parts
     ensures { ClauseParts (files_of rules.now goal.now terms.now) room.now k x result }
 {
-    let n = word(&*room, 0) as usize;
-    let at = word(&*room, plus(3968, k)) as usize;
-    parts_from(&*rules, &*goal, &*terms, x, k < n, at, 0, 64)
+    let n = word(room, 0) as usize;
+    let at = word(room, plus(3968, k)) as usize;
+    parts_from(rules, goal, terms, x, k < n, at, 0, 64)
 }
 
 // Whether the clause at a spot is such a one, wherever its head stands.
 pub fn is_plain<'a>(rules: &'a [u8], goal: &'a [u8], terms: &'a [u8], x: Spot) -> bool
     ensures { PlainAt (files_of rules.now goal.now terms.now) x result }
 {
-    let p = parts_from(&*rules, &*goal, &*terms, x, true, 0, 0, 64);
+    let p = parts_from(rules, goal, terms, x, true, 0, 0, 64);
     p.found
 }
 
@@ -277,15 +245,8 @@ pub fn chain_of<'a>(
     if nest == 0 {
         return inside(x, own);
     }
-    match word_there(&*rules, &*goal, &*terms, x) {
-        Word::Some => chain_of(
-            &*rules,
-            &*goal,
-            &*terms,
-            deeper(x, 7),
-            plus(own, 1),
-            nest - 1,
-        ),
+    match word_there(rules, goal, terms, x) {
+        Word::Some => chain_of(rules, goal, terms, deeper(x, 7), plus(own, 1), nest - 1),
         _ => inside(x, own),
     }
 }
@@ -304,7 +265,7 @@ pub fn may_fit<'a>(
     if !p.headed {
         return true;
     }
-    may_be(&*rules, &*goal, &*terms, &*room, p.head, w.goal, p.own)
+    may_be(rules, goal, terms, room, p.head, w.goal, p.own)
 }
 
 // Whether the head is the atom, where every variable is set and if there is one to compare.
@@ -321,5 +282,5 @@ pub fn fits<'a>(
     if !p.headed {
         return true;
     }
-    same_atoms(&*rules, &*goal, &*terms, &*room, p.head, w.goal)
+    same_atoms(rules, goal, terms, room, p.head, w.goal)
 }

@@ -68,7 +68,7 @@ fn parameter_ok(holds: bool, k: usize) -> bool
 fn number_at(s: &[u8], at: usize) -> usize
     ensures { (w : List ℕ) → Stands s.now at (str w) → is_number w ≡ true → result ≡ worth w }
 {
-    match sexp::number(&*s, at) {
+    match sexp::number(s, at) {
         Value::Nothing => 0,
         Value::Is(k) => k,
     }
@@ -78,7 +78,7 @@ fn number_at(s: &[u8], at: usize) -> usize
 fn past_text(s: &[u8], at: usize) -> usize
     ensures { TextEnds s.now at result }
 {
-    match sexp::plain(&*s, at) {
+    match sexp::plain(s, at) {
         Octets::Nothing => s.len(),
         Octets::Span(from, count) => from + count,
     }
@@ -89,7 +89,7 @@ fn term_bars(s: &[u8], at: usize, to: usize, ok: bool) -> Bars
     ensures { (w : List ℕ) → Stands s.now to (str w) → result ≡ choose ok (B.Clear (to + length (spell (str w)) + 1)) (B.At at) }
 {
     if ok {
-        let end = past_text(&*s, to);
+        let end = past_text(s, to);
         return Bars::Clear(end + 1);
     }
     Bars::At(at)
@@ -101,28 +101,28 @@ pub(crate) fn bars_at(s: &[u8], at: usize, nest: usize, n: usize, holds: bool) -
     requires { n + nest ≤ 64 }
     ensures { (e : Sexp) → Tabled e → Stands s.now at e → nesting e ≤ nest → result ≡ bars_of holds n at e }
 {
-    if !sexp::opens(&*s, at) {
-        return Bars::Clear(past_text(&*s, at));
+    if !sexp::opens(s, at) {
+        return Bars::Clear(past_text(s, at));
     }
     if nest == 0 {
         return Bars::At(at);
     }
-    match sexp::plain(&*s, at + 1) {
+    match sexp::plain(s, at + 1) {
         Octets::Nothing => Bars::Clear(at + 2),
         Octets::Span(from, count) => {
             let to = from + count;
-            let w = word_of(&*s, from, count);
+            let w = word_of(s, from, count);
             match sort_of(w) {
                 Sort::Variable => {
-                    let k = number_at(&*s, to);
-                    term_bars(&*s, at, to, k < n)
+                    let k = number_at(s, to);
+                    term_bars(s, at, to, k < n)
                 }
                 Sort::Parameter => {
-                    let k = number_at(&*s, to);
-                    term_bars(&*s, at, to, parameter_ok(holds, k))
+                    let k = number_at(s, to);
+                    term_bars(s, at, to, parameter_ok(holds, k))
                 }
-                Sort::Quantifier => bars_in(&*s, to, nest - 1, n + 1, holds),
-                Sort::Other => bars_in(&*s, to, nest - 1, n, holds),
+                Sort::Quantifier => bars_in(s, to, nest - 1, n + 1, holds),
+                Sort::Other => bars_in(s, to, nest - 1, n, holds),
             }
         }
     }
@@ -136,10 +136,10 @@ fn bars_in(s: &[u8], at: usize, nest: usize, n: usize, holds: bool) -> Bars
 {
     let mut i = at;
     while i < s.len() {
-        if sexp::closes(&*s, i) {
+        if sexp::closes(s, i) {
             return Bars::Clear(i + 1);
         }
-        match bars_at(&*s, i, nest, n, holds) {
+        match bars_at(s, i, nest, n, holds) {
             Bars::At(o) => {
                 return Bars::At(o);
             }

@@ -21,11 +21,11 @@ pub(crate) fn count_from(s: &[u8], at: usize) -> Count
 {
     let mut i = at;
     let mut n = 0;
-    while !sexp::closes(&*s, i) {
+    while !sexp::closes(s, i) {
         if n == MOST {
             return Count::Over(i);
         }
-        match sexp::past(&*s, i, 64) {
+        match sexp::past(s, i, 64) {
             After::Nothing => {
                 return Count::Are(n);
             }

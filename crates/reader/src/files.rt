@@ -73,7 +73,7 @@ fn is_counted(kind: Kind) -> bool
 fn judge_bars(s: &[u8], kind: Kind, n: usize) -> Judged
     ensures { (e : Sexp) → wrong kind 0 e ≡ none → Stands s.now 0 e → nesting e ≤ 64 → result ≡ bars_judged kind n e }
 {
-    match bars_at(&*s, 0, MOST_LEVELS, 0, may_hold(kind)) {
+    match bars_at(s, 0, MOST_LEVELS, 0, may_hold(kind)) {
         Bars::At(o) => Judged::Refused(Reason::Barred, o),
         Bars::Clear(_) => Judged::Sound(n),
     }
@@ -83,13 +83,13 @@ fn judge_bars(s: &[u8], kind: Kind, n: usize) -> Judged
 fn judge_count(s: &[u8], kind: Kind) -> Judged
     ensures { counted kind ≡ true → (e : Sexp) → wrong kind 0 e ≡ none → Stands s.now 0 e → nesting e ≤ 64 → result ≡ sizes_judged kind e }
 {
-    match count_from(&*s, 1) {
+    match count_from(s, 1) {
         Count::Over(o) => Judged::Refused(Reason::Many, o),
         Count::Are(n) => {
             if n == 0 {
-                return judge_bars(&*s, kind, 0);
+                return judge_bars(s, kind, 0);
             }
-            judge_bars(&*s, kind, n - 1)
+            judge_bars(s, kind, n - 1)
         }
     }
 }
@@ -99,18 +99,18 @@ fn judge_sizes(s: &[u8], kind: Kind) -> Judged
     ensures { (e : Sexp) → wrong kind 0 e ≡ none → Stands s.now 0 e → nesting e ≤ 64 → result ≡ sizes_judged kind e }
 {
     if is_counted(kind) {
-        return judge_count(&*s, kind);
+        return judge_count(s, kind);
     }
-    judge_bars(&*s, kind, 0)
+    judge_bars(s, kind, 0)
 }
 
 // 4, 6 and 5.
 fn judge_words(s: &[u8], kind: Kind) -> Judged
     ensures { (e : Sexp) → Stands s.now 0 e → nesting e ≤ 64 → result ≡ words_judged kind e }
 {
-    match shape_at(&*s, 0, MOST_LEVELS, kind) {
+    match shape_at(s, 0, MOST_LEVELS, kind) {
         Shape::Wrong(o) => Judged::Refused(Reason::Words, o),
-        Shape::Past(_) => judge_sizes(&*s, kind),
+        Shape::Past(_) => judge_sizes(s, kind),
     }
 }
 
@@ -121,10 +121,10 @@ pub fn judge_file(s: &[u8], kind: Kind) -> Judged
     if MOST_BYTES < s.len() {
         return Judged::Refused(Reason::Long, MOST_BYTES);
     }
-    match sexp::canonical(&*s, MOST_LEVELS) {
+    match sexp::canonical(s, MOST_LEVELS) {
         Carrier::Fault(o) => Judged::Refused(Reason::Carrier, o),
         Carrier::Deep(o) => Judged::Refused(Reason::Deep, o),
-        Carrier::Sound => judge_words(&*s, kind),
+        Carrier::Sound => judge_words(s, kind),
     }
 }
 
@@ -132,7 +132,7 @@ pub fn judge_file(s: &[u8], kind: Kind) -> Judged
 fn read_terms(n: usize, terms: &[u8]) -> Read
     ensures { result ≡ terms_read n terms.now }
 {
-    match judge_file(&*terms, Kind::Terms) {
+    match judge_file(terms, Kind::Terms) {
         Judged::Refused(why, at) => Read::Refused(why, File::Terms, at),
         Judged::Sound(m) => Read::Sound(n, m),
     }
@@ -142,9 +142,9 @@ fn read_terms(n: usize, terms: &[u8]) -> Read
 fn read_goal(n: usize, goal: &[u8], terms: &[u8]) -> Read
     ensures { result ≡ goal_read n goal.now terms.now }
 {
-    match judge_file(&*goal, Kind::Goal) {
+    match judge_file(goal, Kind::Goal) {
         Judged::Refused(why, at) => Read::Refused(why, File::Goal, at),
-        Judged::Sound(_) => read_terms(n, &*terms),
+        Judged::Sound(_) => read_terms(n, terms),
     }
 }
 
@@ -152,9 +152,9 @@ fn read_goal(n: usize, goal: &[u8], terms: &[u8]) -> Read
 pub fn read_books(rules: &[u8], goal: &[u8], terms: &[u8]) -> Read
     ensures { result ≡ books_read (books_of rules.now goal.now terms.now) }
 {
-    match judge_file(&*rules, Kind::Rules) {
+    match judge_file(rules, Kind::Rules) {
         Judged::Refused(why, at) => Read::Refused(why, File::Rules, at),
-        Judged::Sound(n) => read_goal(n, &*goal, &*terms),
+        Judged::Sound(n) => read_goal(n, goal, terms),
     }
 }
 
@@ -162,7 +162,7 @@ pub fn read_books(rules: &[u8], goal: &[u8], terms: &[u8]) -> Read
 fn read_strip(n: usize, m: usize, strip: &[u8]) -> Read
     ensures { result ≡ strip_read n m strip.now }
 {
-    match judge_file(&*strip, Kind::Strip) {
+    match judge_file(strip, Kind::Strip) {
         Judged::Refused(why, at) => Read::Refused(why, File::Strip, at),
         Judged::Sound(_) => Read::Sound(n, m),
     }
@@ -172,8 +172,8 @@ fn read_strip(n: usize, m: usize, strip: &[u8]) -> Read
 pub fn read_packet(rules: &[u8], goal: &[u8], terms: &[u8], strip: &[u8]) -> Read
     ensures { result ≡ packet_read (packet_of rules.now goal.now terms.now strip.now) }
 {
-    match read_books(&*rules, &*goal, &*terms) {
+    match read_books(rules, goal, terms) {
         Read::Refused(why, file, at) => Read::Refused(why, file, at),
-        Read::Sound(n, m) => read_strip(n, m, &*strip),
+        Read::Sound(n, m) => read_strip(n, m, strip),
     }
 }

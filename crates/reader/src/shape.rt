@@ -43,7 +43,7 @@ pub(crate) enum Shape {
 fn is_number(w: &[u8]) -> bool
     ensures { result ≡ is_number w.now }
 {
-    match sexp::number_of(&*w) {
+    match sexp::number_of(w) {
         Value::Is(_) => true,
         Value::Nothing => false,
     }
@@ -53,13 +53,13 @@ fn is_number(w: &[u8]) -> bool
 fn is_step(w: &[u8]) -> bool
     ensures { result ≡ is_step w.now }
 {
-    if sexp::same(&*w, b"l") {
+    if sexp::same(w, b"l") {
         return true;
     }
-    if sexp::same(&*w, b"r") {
+    if sexp::same(w, b"r") {
         return true;
     }
-    is_number(&*w)
+    is_number(w)
 }
 
 // Octets that are of this kind by themselves.
@@ -67,9 +67,9 @@ fn is_text(w: &[u8], kind: Kind) -> bool
     ensures { result ≡ is_text kind w.now }
 {
     match kind {
-        Kind::Name => sexp::is_name_of(&*w),
-        Kind::Number => is_number(&*w),
-        Kind::Step => is_step(&*w),
+        Kind::Name => sexp::is_name_of(w),
+        Kind::Number => is_number(w),
+        Kind::Step => is_step(w),
         Kind::Path => false,
         Kind::Term => false,
         Kind::Atom => false,
@@ -103,7 +103,7 @@ fn begins_with(kind: Kind) -> Start
 fn text_head(s: &[u8], at: usize, kind: Kind) -> Head
     ensures { (e : Sexp) → (get_or s.now at 0 ≡ 40 → ⊥) → Stands s.now at e → HeadAt s.now kind at e result }
 {
-    match sexp::plain(&*s, at) {
+    match sexp::plain(s, at) {
         Octets::Nothing => Head::Wrong(at),
         Octets::Span(from, count) => {
             let to = from + count;
@@ -130,10 +130,10 @@ fn word_head(s: &[u8], at: usize, kind: Kind) -> Head
     requires { at < length s.now }
     ensures { (xs : Sexps) → begins kind ≡ with_word → Stands s.now at (list xs) → HeadAt s.now kind at (list xs) result }
 {
-    match sexp::plain(&*s, at + 1) {
+    match sexp::plain(s, at + 1) {
         Octets::Nothing => Head::Wrong(at + 1),
         Octets::Span(from, count) => {
-            let w = word_of(&*s, from, count);
+            let w = word_of(s, from, count);
             row_head(at + 1, from + count, kind, w)
         }
     }
@@ -147,7 +147,7 @@ fn list_head(s: &[u8], at: usize, kind: Kind) -> Head
     match begins_with(kind) {
         Start::Never => Head::Wrong(at),
         Start::Plainly => Head::List(at + 1, Due::Each(Kind::Step)),
-        Start::WithWord => word_head(&*s, at, kind),
+        Start::WithWord => word_head(s, at, kind),
     }
 }
 
@@ -155,10 +155,10 @@ fn list_head(s: &[u8], at: usize, kind: Kind) -> Head
 fn head_at(s: &[u8], at: usize, kind: Kind) -> Head
     ensures { (e : Sexp) → Stands s.now at e → HeadAt s.now kind at e result }
 {
-    if sexp::opens(&*s, at) {
-        return list_head(&*s, at, kind);
+    if sexp::opens(s, at) {
+        return list_head(s, at, kind);
     }
-    text_head(&*s, at, kind)
+    text_head(s, at, kind)
 }
 
 // The end of a list whose closing parenthesis stands at an offset.
@@ -177,14 +177,14 @@ fn end(at: usize, due: Due) -> Shape
 pub(crate) fn shape_at(s: &[u8], at: usize, nest: usize, kind: Kind) -> Shape
     ensures { (e : Sexp) → Stands s.now at e → nesting e ≤ nest → result ≡ shape_of kind at e }
 {
-    match head_at(&*s, at, kind) {
+    match head_at(s, at, kind) {
         Head::Wrong(o) => Shape::Wrong(o),
         Head::Text(to) => Shape::Past(to),
         Head::List(from, due) => {
             if nest == 0 {
                 return Shape::Wrong(at);
             }
-            shape_in(&*s, from, nest - 1, due)
+            shape_in(s, from, nest - 1, due)
         }
     }
 }
@@ -197,7 +197,7 @@ fn shape_in(s: &[u8], at: usize, nest: usize, due: Due) -> Shape
     let mut i = at;
     let mut d = due;
     while i < s.len() {
-        if sexp::closes(&*s, i) {
+        if sexp::closes(s, i) {
             return end(i, d);
         }
         match next_due(d) {
@@ -205,7 +205,7 @@ fn shape_in(s: &[u8], at: usize, nest: usize, due: Due) -> Shape
                 return Shape::Wrong(i);
             }
             Follows::Member(kind, after) => {
-                match shape_at(&*s, i, nest, kind) {
+                match shape_at(s, i, nest, kind) {
                     Shape::Wrong(o) => {
                         return Shape::Wrong(o);
                     }

@@ -56,7 +56,7 @@ pub(crate) fn word_of(s: &[u8], from: usize, count: usize) -> Word
     if LONGEST < count {
         return Word::Nothing;
     }
-    let k = key(&*s, from, count);
+    let k = key(s, from, count);
     word_by(k)
 }
 
@@ -100,27 +100,27 @@ fn is_colon_next(s: &[u8], at: usize) -> bool
 pub fn word_at(s: &[u8], at: usize) -> Word
     ensures { WordAt s.now at result }
 {
-    if !is_colon_next(&*s, at) {
-        return word_long(&*s, at);
+    if !is_colon_next(s, at) {
+        return word_long(s, at);
     }
     let n = s[at];
     if n == 51 {
-        let k = key_three(&*s, at + 2);
+        let k = key_three(s, at + 2);
         return word_by(k);
     }
     if n == 52 {
-        let k = key_four(&*s, at + 2);
+        let k = key_four(s, at + 2);
         return word_by(k);
     }
-    word_long(&*s, at)
+    word_long(s, at)
 }
 
 // The same for a word of any length.
 fn word_long(s: &[u8], at: usize) -> Word
     ensures { WordAt s.now at result }
 {
-    match sexp::plain(&*s, at) {
+    match sexp::plain(s, at) {
         sexp::Octets::Nothing => Word::Nothing,
-        sexp::Octets::Span(from, count) => word_of(&*s, from, count),
+        sexp::Octets::Span(from, count) => word_of(s, from, count),
     }
 }

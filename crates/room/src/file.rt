@@ -27,9 +27,9 @@ pub fn part<'a>(
     ensures { result.now ≡ drop at (file_of rules.now goal.now terms.now which) }
 {
     match which {
-        Source::Rules => from(&*rules, at),
-        Source::Goal => from(&*goal, at),
-        Source::Terms => from(&*terms, at),
+        Source::Rules => from(rules, at),
+        Source::Goal => from(goal, at),
+        Source::Terms => from(terms, at),
     }
 }
 
@@ -75,12 +75,12 @@ pub fn supposed(room: &[u32], m: usize) -> Spot
 {
     if m < 63 {
         let i = 770 + 5 * m;
-        let source = source_of(word(&*room, i));
+        let source = source_of(word(room, i));
         return Spot {
             source: source,
-            at: word(&*room, i + 1) as usize,
-            base: word(&*room, i + 2) as usize,
-            count: word(&*room, i + 3) as usize,
+            at: word(room, i + 1) as usize,
+            base: word(room, i + 2) as usize,
+            count: word(room, i + 3) as usize,
         };
     }
     Spot {

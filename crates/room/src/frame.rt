@@ -32,7 +32,7 @@ pub fn variable(room: &[u32], base: usize, count: usize, i: usize) -> Binding
 {
     if i < count {
         let n = count - 1 - i;
-        return binding_of(word_after(&*room, base, n));
+        return binding_of(word_after(room, base, n));
     }
     Binding::Parameter(0)
 }

@@ -3,14 +3,13 @@
 use Prim.Native.Nat.{ℕ, ◌+◌, ◌-◌, ◌<◌, ◌≤◌}
 use mathlib.Core.Path.{◌≡◌, refl, sym, ◌∙◌, ap, ap₂, subst}
 use mathlib.Core.Bool.{Bool, true, false}
-use mathlib.Core.List.{List, [], ◌∷◌, ◌++◌}
+use mathlib.Core.List.{List}
 use mathlib.Core.Option.{Option, none, some}
 use native.Mathlib.Omega.{arith}
 use lib.Dec.{leb}
-use lib.ListN.{length, get_or, take, drop, length-drop, take-append-drop}
+use lib.ListN.{length, get_or, take, drop, length-drop}
 use lib.Seq.{take-append_seam}
 use borrow.Author.Tests.{leb-true, leb-false}
-use Rattle.basics.specs.Text.{octets}
 use Rattle.sexp.specs.declared.skip.After.{After}
 use Rattle.sexp.specs.declared.skip.After.TheVariants.{Next, Nothing}
 use Rattle.sexp.specs.declared.text.Reading.{Reading}
@@ -20,15 +19,12 @@ use Rattle.sexp.specs.Sexp.{Sexp, Sexps, str, hinted, list, nil, cons, spell_ont
 use Rattle.sexp.specs.Known.{Known, text_of}
 use Rattle.sexp.specs.Text.{VerbatimAt, TextAt}
 use Rattle.sexp.specs.Strings.{Plain}
-use Rattle.sexp.specs.Past.{Ends, PastAt, StringEnd, SharedPair}
-use Rattle.sexp.specs.WordsAt.{Numeral}
-use Rattle.sexp.specs.Variable.{ShortVariable}
+use Rattle.sexp.specs.Past.{Ends, PastAt, StringEnd}
 use Rattle.sexp.proofs.DecimalLaws.{digit_low, digit-high}
 use Rattle.sexp.proofs.SpellLaws.{spell-length}
-use Rattle.sexp.proofs.OntoLaws.{spell-onto, spell-some}
+use Rattle.sexp.proofs.OntoLaws.{spell-some}
 use Rattle.sexp.proofs.StandLaws.{none-closes, stands-inside, all-before, stands-once, members-stand, first-stands, others-stand, list-stands, none-stand, more-stand, opens-list, opens_not, list_length, cons-length}
-use Rattle.sexp.proofs.NumberLaws.{drop_here}
-use Rattle.sexp.proofs.ShortLaws.{short-stands, short-spans, short_stuck, short-number}
+use Rattle.sexp.proofs.ShortLaws.{short-spans, short_stuck}
 use Rattle.sexp.proofs.TextLaws.{text-unhinted}
 
 -- a plain string that is read, and one that is not
@@ -235,57 +231,3 @@ module _ (s : List ℕ) (at : ℕ) (b : length s < 9223372036854775808) where
           subst (Going s at 0) {x = at + 4 + 2 + (get_or s (at + 4) 0 - 48)} {y = n} (omega (arith, q))
           (going-string s at 0 (at + 4) first (at + 4 + 2 + (get_or s (at + 4) 0 - 48)) (λ k. omega (arith, k, digit_low (get_or s (at + 4) 0) d)) (λ k. omega (arith, k, digit_low (get_or s (at + 4) 0) d))
           (string-short s (at + 4) b (omega (arith, q, l)) d (ap (λ (i : ℕ). get_or s i 0) {x = at + 4 + 1} {y = at + 5} (omega arith) ∙ f)))
-
--- where the bytes of such a list stand again, it does
-pub pair-again : (s : List ℕ) (i n : ℕ) (t : List ℕ) (j : ℕ) → Ends s i 1 n → take (n - i) (drop i s) ≡ take (j + (n - i) - j) (drop j t) → SharedPair s i t j
-pair-again s i n t j h e =
-    let x = h.expression in
-    let k = j + (n - i) - j in
-    let l : n - i ≡ length (spell x) = omega (arith, h.ends) in
-    let bytes : take (n - i) (drop i s) ≡ spell x = ap₂ take l (h.stands.spelt ∙ spell-onto x h.stands.rest) ∙ take-append_seam (spell x) h.stands.rest in
-    record {
-      expression = x;
-      here = h.stands;
-      there = record {
-        rest = drop k (drop j t);
-        spelt = sym (take-append-drop k (drop j t)) ∙ ap (λ (w : List ℕ). w ++ drop k (drop j t)) (sym e ∙ bytes) ∙ sym (spell-onto x (drop k (drop j t)));
-      };
-      shallow = h.shallow;
-    }
-
--- where 10 is said, nothing is said of a variable
-pub no-variable : (s : List ℕ) (at : ℕ) → ShortVariable s at 10
-no-variable s at = record {
-  opens = λ l. absurd (omega (arith, l));
-  word = λ l. absurd (omega (arith, l));
-  number = λ l. absurd (omega (arith, l));
-  ends = λ l. absurd (omega (arith, l));
-  inside = λ l. absurd (omega (arith, l));
-}
-
--- a variable whose number is one digit, by its eight bytes: a list of two strings
-module _ (s : List ℕ) (at : ℕ) (b : length s < 9223372036854775808) where
-  pub variable-short : at + 8 ≤ length s → get_or s at 0 ≡ 40 → get_or s (at + 1) 0 ≡ 49 → get_or s (at + 2) 0 ≡ 58 → get_or s (at + 3) 0 ≡ 118 → get_or s (at + 4) 0 ≡ 49 → get_or s (at + 5) 0 ≡ 58 → is_digit (get_or s (at + 6) 0) ≡ true → get_or s (at + 7) 0 ≡ 41 → ShortVariable s at (get_or s (at + 6) 0 - 48)
-  unfolding is_digit
-  variable-short l o e c v f g d z = record {
-    opens = λ k. o;
-    word = λ k. short-stands s (at + 1) {w = octets "v"} (omega arith) (record {
-      inside = omega (arith, l);
-      count = e;
-      colon = byte (at + 1 + 1) (at + 2) (omega arith) ∙ c;
-      octets = ap (λ (i : ℕ). take 1 (drop i s)) {x = at + 1 + 2} {y = at + 3} (omega arith) ∙ ap (take 1) (drop_here s (at + 3) (omega (arith, l))) ∙ ap (λ (x : ℕ). x ∷ []) v;
-    });
-    number = λ k.
-        subst (Numeral s (at + 4)) {x = get_or s (at + 4 + 2) 0 - 48} {y = get_or s (at + 6) 0 - 48} (ap (λ (x : ℕ). x - 48) last)
-        (short-number s (at + 4) (omega (arith, l)) f (byte (at + 4 + 1) (at + 5) (omega arith) ∙ g) (ap is_digit last ∙ d));
-    ends = λ k.
-        subst (Ends s at 1) {x = at + 7 + 1} {y = at + 8} (omega arith)
-        (pair_ends s at b (at + 7) o e c (ap is_digit f) g (omega (arith, f)) (omega (arith, l)) z);
-    inside = λ k. l;
-  }
-    where
-      byte : (i j : ℕ) → i ≡ j → get_or s i 0 ≡ get_or s j 0
-      byte i j q = ap (λ (x : ℕ). get_or s x 0) q
-
-      last : get_or s (at + 4 + 2) 0 ≡ get_or s (at + 6) 0
-      last = byte (at + 4 + 2) (at + 6) (omega arith)

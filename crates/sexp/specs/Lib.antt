@@ -10,5 +10,4 @@ pub mod Strings
 pub mod Past
 pub mod Words
 pub mod WordsAt
-pub mod Variable
 pub mod Read

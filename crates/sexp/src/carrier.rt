@@ -62,19 +62,19 @@ pub fn canonical(s: &[u8], limit: usize) -> Carrier
                 return Carrier::Fault(at);
             }
             if lists == 1 {
-                return finish(&*s, at + 1, v);
+                return finish(s, at + 1, v);
             }
             lists -= 1;
             at += 1;
             continue;
         }
-        match text(&*s, at, HINTS_READ) {
+        match text(s, at, HINTS_READ) {
             Reading::Stuck(o) => {
                 return Carrier::Fault(o);
             }
             Reading::Spans { to, .. } => {
                 if lists == 0 {
-                    return finish(&*s, to, v);
+                    return finish(s, to, v);
                 }
                 at = to;
             }

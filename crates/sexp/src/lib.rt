@@ -1,5 +1,5 @@
 // Canonical S-expressions (RFC 9804) in bytes: `decimal` reads a length, `text` a string, `carrier` judges a whole file.
-// From any offset: `strings` finds the plain string there, `skip` goes past the expression there, knows a short variable and compares short lists, and `words` knows words, names and numbers.
+// From any offset: `strings` finds the plain string there, `skip` goes past the expression there, and `words` knows words, names and numbers.
 mod carrier;
 mod decimal;
 mod skip;
@@ -8,6 +8,6 @@ mod text;
 mod words;
 
 pub use carrier::{Carrier, canonical};
-pub use skip::{After, past, same_pair, short_string, short_variable};
+pub use skip::{After, past};
 pub use strings::{Octets, byte, closes, opens, plain};
 pub use words::{Value, is_name, is_name_of, is_word, number, number_of, same, same_text};

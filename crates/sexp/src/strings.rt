@@ -22,14 +22,14 @@ pub fn byte(s: &[u8], at: usize) -> u8
 pub fn opens(s: &[u8], at: usize) -> bool
     ensures { result ≡ eqb (get_or s.now at 0) 40 }
 {
-    byte(&*s, at) == 40
+    byte(s, at) == 40
 }
 
 // Whether a list closes at an offset.
 pub fn closes(s: &[u8], at: usize) -> bool
     ensures { result ≡ eqb (get_or s.now at 0) 41 }
 {
-    byte(&*s, at) == 41
+    byte(s, at) == 41
 }
 
 // The plain string at an offset: its length, a colon, and that many octets.
@@ -39,7 +39,7 @@ pub fn plain(s: &[u8], at: usize) -> Octets
     if s.len() < at {
         return Octets::Nothing;
     }
-    match verbatim(&*s, at) {
+    match verbatim(s, at) {
         Reading::Stuck(_) => Octets::Nothing,
         Reading::Spans { from, to } => Octets::Span(from, to - from),
     }

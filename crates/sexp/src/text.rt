@@ -26,7 +26,7 @@ pub(crate) fn verbatim(s: &[u8], at: usize) -> Reading
             };
         }
     }
-    verbatim_long(&*s, at)
+    verbatim_long(s, at)
 }
 
 // The same for a length of any number of digits.
@@ -40,7 +40,7 @@ fn verbatim_long(s: &[u8], at: usize) -> Reading
     if !digit(s[at]) {
         return Reading::Stuck(at);
     }
-    let p = number(&*s, at);
+    let p = number(s, at);
     let next = p.next;
     let value = p.value;
     if next == s.len() {
@@ -65,12 +65,12 @@ pub(crate) fn text(s: &[u8], at: usize, hints: bool) -> Reading
     ensures { TextAt hints s.now at result }
 {
     if !hints {
-        return verbatim(&*s, at);
+        return verbatim(s, at);
     }
     if s[at] != 91 {
-        return verbatim(&*s, at);
+        return verbatim(s, at);
     }
-    match verbatim(&*s, at + 1) {
+    match verbatim(s, at + 1) {
         Reading::Stuck(o) => Reading::Stuck(o),
         Reading::Spans { from, to } => {
             if to == s.len() {
@@ -79,7 +79,7 @@ pub(crate) fn text(s: &[u8], at: usize, hints: bool) -> Reading
             if s[to] != 93 {
                 return Reading::Stuck(to);
             }
-            verbatim(&*s, to + 1)
+            verbatim(s, to + 1)
         }
     }
 }

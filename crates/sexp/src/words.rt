@@ -38,7 +38,7 @@ pub fn is_word(s: &[u8], at: usize, word: &[u8]) -> bool
 {
     let count = word.len();
     if 9 < count {
-        return is_word_long(&*s, at, &*word);
+        return is_word_long(s, at, word);
     }
     if s.len() < at {
         return false;
@@ -53,18 +53,18 @@ pub fn is_word(s: &[u8], at: usize, word: &[u8]) -> bool
         return false;
     }
     let from = at + 2;
-    same(&s[from..from + count], &*word)
+    same(&s[from..from + count], word)
 }
 
 // The same for a word of any length.
 fn is_word_long(s: &[u8], at: usize, word: &[u8]) -> bool
     ensures { Tells result (Stands s.now at (str word.now)) }
 {
-    match plain(&*s, at) {
+    match plain(s, at) {
         Octets::Nothing => false,
         Octets::Span(from, count) => {
             let to = from + count;
-            same(&s[from..to], &*word)
+            same(&s[from..to], word)
         }
     }
 }
@@ -94,24 +94,24 @@ fn is_short(s: &[u8], at: usize) -> bool
 pub fn same_text(s: &[u8], i: usize, t: &[u8], j: usize) -> bool
     ensures { Tells result (Shared s.now i t.now j) }
 {
-    if !is_short(&*t, j) {
-        return same_text_long(&*s, i, &*t, j);
+    if !is_short(t, j) {
+        return same_text_long(s, i, t, j);
     }
     let count = (t[j] - 48) as usize;
     let from = j + 2;
     let to = from + count;
-    is_word(&*s, i, &t[from..to])
+    is_word(s, i, &t[from..to])
 }
 
 // The same for strings of any length.
 fn same_text_long(s: &[u8], i: usize, t: &[u8], j: usize) -> bool
     ensures { Tells result (Shared s.now i t.now j) }
 {
-    match plain(&*t, j) {
+    match plain(t, j) {
         Octets::Nothing => false,
         Octets::Span(from, count) => {
             let to = from + count;
-            is_word(&*s, i, &t[from..to])
+            is_word(s, i, &t[from..to])
         }
     }
 }
@@ -161,7 +161,7 @@ pub fn is_name_of(w: &[u8]) -> bool
 pub fn is_name(s: &[u8], at: usize) -> bool
     ensures { Tells result (Named s.now at) }
 {
-    match plain(&*s, at) {
+    match plain(s, at) {
         Octets::Nothing => false,
         Octets::Span(from, count) => {
             let to = from + count;
@@ -183,7 +183,7 @@ pub fn number_of(w: &[u8]) -> Value
     if !digit(w[0]) {
         return Value::Nothing;
     }
-    let p = digits(&*w, 0);
+    let p = digits(w, 0);
     let next = p.next;
     let value = p.value;
     if next != w.len() {
@@ -199,14 +199,14 @@ pub fn number(s: &[u8], at: usize) -> Value
     if at < s.len() && 2 < s.len() - at && s[at] == 49 && s[at + 1] == 58 && digit(s[at + 2]) {
         return Value::Is((s[at + 2] - 48) as usize);
     }
-    number_long(&*s, at)
+    number_long(s, at)
 }
 
 // The same for any number of digits.
 fn number_long(s: &[u8], at: usize) -> Value
     ensures { NumberAt s.now at result }
 {
-    match plain(&*s, at) {
+    match plain(s, at) {
         Octets::Nothing => Value::Nothing,
         Octets::Span(from, count) => {
             let to = from + count;

@@ -10,8 +10,8 @@ use room::{Source, Spot, Where};
 pub fn fill_tables(rules: &[u8], terms: &[u8], room: &mut [u32])
     ensures { words ≤ length room.old → Tabled room.new rules.now terms.now }
 {
-    fill_rules(&*rules, room);
-    fill_candidates(&*terms, room);
+    fill_rules(rules, room);
+    fill_candidates(terms, room);
 }
 
 // The root place: the goal file's goal, no clause supposed, no parameter open.

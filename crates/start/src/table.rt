@@ -15,7 +15,7 @@ fn starts(s: &[u8], at: usize, room: &mut [u32], base: usize) -> usize
     let mut p = at;
     let mut k: usize = 0;
     while k < 256 {
-        let After::Next(n) = past(&*s, p, 64) else {
+        let After::Next(n) = past(s, p, 64) else {
             return k;
         };
         put(room, base + k, hold(p));
@@ -36,7 +36,7 @@ pub(crate) enum Head {
 fn number_after(s: &[u8]) -> usize
     ensures { NumberAfter s.now result }
 {
-    match number(&*s, 4) {
+    match number(s, 4) {
         Value::Nothing => 0,
         Value::Is(k) => k,
     }
@@ -45,7 +45,7 @@ fn number_after(s: &[u8]) -> usize
 fn begins(s: &[u8], at: usize) -> Head
     ensures { HeadAt s.now at result }
 {
-    let t = from(&*s, at);
+    let t = from(s, at);
     if is_word(t, 1, b"e") {
         return Head::Parameter(number_after(t));
     }
@@ -69,9 +69,9 @@ fn highest(s: &[u8], at: usize, nest: usize) -> usize
     if nest == 0 {
         return 0;
     }
-    match begins(&*s, at) {
+    match begins(s, at) {
         Head::Parameter(k) => k,
-        Head::Terms(p) => highest_of(&*s, p, nest - 1),
+        Head::Terms(p) => highest_of(s, p, nest - 1),
     }
 }
 
@@ -82,9 +82,9 @@ fn highest_of(s: &[u8], at: usize, nest: usize) -> usize
 {
     let mut p = at;
     let mut m = 0;
-    while !closes(&*s, p) {
-        m = larger(m, highest(&*s, p, nest));
-        let After::Next(n) = past(&*s, p, 64) else {
+    while !closes(s, p) {
+        m = larger(m, highest(s, p, nest));
+        let After::Next(n) = past(s, p, 64) else {
             return 0;
         };
         p = n;
@@ -100,7 +100,7 @@ fn highests(terms: &[u8], room: &mut [u32], count: usize)
     let mut i = 0;
     while i < count {
         let at = word_after(room, 258, i) as usize;
-        put(room, 514 + i, hold(highest(&*terms, at, 64)));
+        put(room, 514 + i, hold(highest(terms, at, 64)));
         i += 1;
     }
 }
@@ -109,7 +109,7 @@ fn highests(terms: &[u8], room: &mut [u32], count: usize)
 pub fn fill_rules(rules: &[u8], room: &mut [u32])
     ensures { RulesFilled room.old room.new rules.now }
 {
-    let n = starts(&*rules, 8, room, 1);
+    let n = starts(rules, 8, room, 1);
     put(room, 0, hold(n));
 }
 
@@ -117,17 +117,17 @@ pub fn fill_rules(rules: &[u8], room: &mut [u32])
 pub fn fill_candidates(terms: &[u8], room: &mut [u32])
     ensures { CandidatesFilled room.old room.new terms.now }
 {
-    let n = starts(&*terms, 8, room, 258);
+    let n = starts(terms, 8, room, 258);
     put(room, 257, hold(n));
-    highests(&*terms, room, n);
+    highests(terms, room, n);
 }
 
 // Whether a candidate may be used where so many parameters are open.
 pub fn may_use(room: &[u32], open_parameters: usize, i: usize) -> bool
     ensures { result ≡ (ltb i (get_or room.now candidates_word 0) && leb (get_or room.now (highest_word i) 0) open_parameters) }
 {
-    if i < word(&*room, 257) as usize {
-        return word_after(&*room, 514, i) as usize <= open_parameters;
+    if i < word(room, 257) as usize {
+        return word_after(room, 514, i) as usize <= open_parameters;
     }
     false
 }

@@ -22,14 +22,14 @@ pub(crate) fn is_this<'a>(
     if !inside(room.len(), at) {
         return false;
     }
-    if !marks(word(&*room, at, 3), w.supposed) {
+    if !marks(word(room, at, 3), w.supposed) {
         return false;
     }
-    if word(&*room, at, 4) as usize != w.parameters {
+    if word(room, at, 4) as usize != w.parameters {
         return false;
     }
-    let x = spot(&*room, at);
-    same_atoms(&*rules, &*goal, &*terms, &*room, x, w.goal)
+    let x = spot(room, at);
+    same_atoms(rules, goal, terms, room, x, w.goal)
 }
 
 // A failure is believed up to the height at which it was found, a success from there on.
@@ -47,13 +47,13 @@ pub fn recall<'a>(
     if height == 0 {
         return Recalled::Unknown;
     }
-    if !is_this(&*rules, &*goal, &*terms, &*room, w, at) {
+    if !is_this(rules, goal, terms, room, w, at) {
         return Recalled::Unknown;
     }
-    if height <= word(&*room, at, 5) as usize {
+    if height <= word(room, at, 5) as usize {
         return Recalled::No;
     }
-    let proved = word(&*room, at, 6) as usize;
+    let proved = word(room, at, 6) as usize;
     if proved == 0 {
         return Recalled::Unknown;
     }
@@ -75,14 +75,14 @@ pub fn chosen<'a>(
 ) -> usize
     ensures { Chose (files_of rules.now goal.now terms.now) room.now w height at result }
 {
-    let k = word(&*room, at, 7) as usize;
+    let k = word(room, at, 7) as usize;
     if k == 0 {
         return 0;
     }
-    if word(&*room, at, 6) as usize != height {
+    if word(room, at, 6) as usize != height {
         return 0;
     }
-    if !is_this(&*rules, &*goal, &*terms, &*room, w, at) {
+    if !is_this(rules, goal, terms, room, w, at) {
         return 0;
     }
     k

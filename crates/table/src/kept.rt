@@ -85,7 +85,7 @@ pub fn keep<'a>(
     if !fits(w.goal, w.supposed, w.parameters, height) {
         return;
     }
-    if is_this(&*rules, &*goal, &*terms, room, w, at) {
+    if is_this(rules, goal, terms, room, w, at) {
         note(room, at, height, found, choice, w.top);
         return;
     }

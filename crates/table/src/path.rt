@@ -9,7 +9,7 @@ use places::plus;
 pub fn numbers(room: &[u32], at: usize) -> usize
     ensures { result ≡ numbers_of room.now at }
 {
-    let n = word(&*room, at, 2);
+    let n = word(room, at, 2);
     if n < 8 {
         return (8 - n) as usize;
     }
@@ -20,7 +20,7 @@ pub fn numbers(room: &[u32], at: usize) -> usize
 pub(crate) fn numbers_word(room: &[u32], at: usize) -> usize
     ensures { at + 16 ≤ length room.now → result ≡ numbers_word room.now at }
 {
-    let n = numbers(&*room, at);
+    let n = numbers(room, at);
     if 16 < n {
         return at;
     }

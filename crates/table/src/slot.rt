@@ -34,11 +34,11 @@ pub(crate) fn inside(words: usize, at: usize) -> bool
 pub(crate) fn spot(room: &[u32], at: usize) -> Spot
     ensures { at + 16 ≤ length room.now → result ≡ slot_spot room.now at }
 {
-    let source = source_of(word(&*room, at, 0));
+    let source = source_of(word(room, at, 0));
     Spot {
         source: source,
-        at: word(&*room, at, 1) as usize,
+        at: word(room, at, 1) as usize,
         base: plus(at, 8),
-        count: word(&*room, at, 2) as usize,
+        count: word(room, at, 2) as usize,
     }
 }

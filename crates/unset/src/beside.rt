@@ -11,10 +11,10 @@ use sexp::{After, Value, closes, is_word, number, past};
 fn variable_at(s: &[u8], at: usize) -> Value
     ensures { VariableIs s.now at result }
 {
-    if !is_word(&*s, plus(at, 1), b"v") {
+    if !is_word(s, plus(at, 1), b"v") {
         return Value::Nothing;
     }
-    number(&*s, plus(at, 4))
+    number(s, plus(at, 4))
 }
 
 // The variable of the atom at the second spot beside the first argument of the one at the first that is variable v.
@@ -30,8 +30,8 @@ pub fn same_as<'a>(
 {
     let a = x.source;
     let b = y.source;
-    let s = part(&*rules, &*goal, &*terms, a, x.at);
-    let t = part(&*rules, &*goal, &*terms, b, y.at);
+    let s = part(rules, goal, terms, a, x.at);
+    let t = part(rules, goal, terms, b, y.at);
     let After::Next(i) = past(s, 7, 0) else {
         return Value::Nothing;
     };

@@ -27,11 +27,11 @@ pub fn compare<'a>(
     ensures { Comparing (files_of rules.now goal.now terms.now) room.now x y own result }
 {
     let source = x.source;
-    let s = part(&*rules, &*goal, &*terms, source, x.at);
-    if holds(s, 0, 0, 64, &*room, x, own, false, 0) {
+    let s = part(rules, goal, terms, source, x.at);
+    if holds(s, 0, 0, 64, room, x, own, false, 0) {
         return Likeness::Open;
     }
-    if same_terms(&*rules, &*goal, &*terms, &*room, x, y, 128) {
+    if same_terms(rules, goal, terms, room, x, y, 128) {
         return Likeness::Same;
     }
     Likeness::Never
@@ -49,7 +49,7 @@ fn differs<'a>(
 ) -> bool
     ensures { DiffersAt (files_of rules.now goal.now terms.now) room.now x y own result }
 {
-    match compare(&*rules, &*goal, &*terms, &*room, x, y, own) {
+    match compare(rules, goal, terms, room, x, y, own) {
         Likeness::Never => true,
         Likeness::Open => false,
         Likeness::Same => false,
@@ -70,8 +70,8 @@ pub fn may_be<'a>(
 {
     let a = x.source;
     let b = y.source;
-    let s = part(&*rules, &*goal, &*terms, a, x.at);
-    let t = part(&*rules, &*goal, &*terms, b, y.at);
+    let s = part(rules, goal, terms, a, x.at);
+    let t = part(rules, goal, terms, b, y.at);
     if !same_text(s, 7, t, 7) {
         return false;
     }
@@ -84,15 +84,7 @@ pub fn may_be<'a>(
         if closes(t, q) {
             return false;
         }
-        if differs(
-            &*rules,
-            &*goal,
-            &*terms,
-            &*room,
-            further(x, p),
-            further(y, q),
-            own,
-        ) {
+        if differs(rules, goal, terms, room, further(x, p), further(y, q), own) {
             return false;
         }
         let After::Next(m) = past(s, p, 64) else {
@@ -118,7 +110,7 @@ fn word(room: &[u32], i: usize) -> u32
 fn candidate_spot(room: &[u32], i: u32) -> Spot
     ensures { result ≡ candidate_spot room.now i }
 {
-    let at = word(&*room, 258 + i as usize) as usize;
+    let at = word(room, 258 + i as usize) as usize;
     Spot {
         source: Source::Terms,
         at: at,
@@ -138,15 +130,7 @@ fn is_candidate<'a>(
 ) -> bool
     ensures { IsCandidate (files_of rules.now goal.now terms.now) room.now y i result }
 {
-    same_terms(
-        &*rules,
-        &*goal,
-        &*terms,
-        &*room,
-        candidate_spot(&*room, i),
-        y,
-        128,
-    )
+    same_terms(rules, goal, terms, room, candidate_spot(room, i), y, 128)
 }
 
 // The lowest of the first n candidates that is the term at a spot that has this number; n if none of them is. A candidate with another number is another term, so it is not looked at.
@@ -161,12 +145,12 @@ fn lowest<'a>(
 ) -> u32
     ensures { LowestAt (files_of rules.now goal.now terms.now) room.now y key n result }
 {
-    let mut i = next_candidate(&*room, key, 0, n);
+    let mut i = next_candidate(room, key, 0, n);
     while i < n {
-        if is_candidate(&*rules, &*goal, &*terms, &*room, y, i) {
+        if is_candidate(rules, goal, terms, room, y, i) {
             return i;
         }
-        i = next_candidate(&*room, key, i + 1, n);
+        i = next_candidate(room, key, i + 1, n);
     }
     n
 }
@@ -176,14 +160,14 @@ fn bound_to<'a>(rules: &'a [u8], goal: &'a [u8], terms: &'a [u8], room: &[u32], 
     ensures { BoundTo (files_of rules.now goal.now terms.now) room.now y result }
 {
     let source = y.source;
-    let t = part(&*rules, &*goal, &*terms, source, y.at);
+    let t = part(rules, goal, terms, source, y.at);
     if !is_word(t, 1, b"v") {
         return 0xffff_ffff;
     }
     let Value::Is(j) = number(t, 4) else {
         return 0xffff_ffff;
     };
-    match variable(&*room, y.base, y.count, j) {
+    match variable(room, y.base, y.count, j) {
         Binding::Candidate(c) => c,
         Binding::Parameter(_) => 0xffff_ffff,
     }
@@ -199,14 +183,14 @@ pub fn candidate_at<'a>(
 ) -> Forced
     ensures { CandidateAt (files_of rules.now goal.now terms.now) room.now y result }
 {
-    let n = word(&*room, 257);
-    let c = bound_to(&*rules, &*goal, &*terms, &*room, y);
+    let n = word(room, 257);
+    let c = bound_to(rules, goal, terms, room, y);
     if c < n {
-        let key = word(&*room, 3456 + c as usize);
-        return Forced::Candidate(lowest(&*rules, &*goal, &*terms, &*room, y, key, c));
+        let key = word(room, 3456 + c as usize);
+        return Forced::Candidate(lowest(rules, goal, terms, room, y, key, c));
     }
-    let key = term_key(&*rules, &*goal, &*terms, &*room, y);
-    let i = lowest(&*rules, &*goal, &*terms, &*room, y, key, n);
+    let key = term_key(rules, goal, terms, room, y);
+    let i = lowest(rules, goal, terms, room, y, key, n);
     if i < n {
         return Forced::Candidate(i);
     }
@@ -225,14 +209,14 @@ pub fn open_at<'a>(
     ensures { OpenAt (files_of rules.now goal.now terms.now) room.now x own result }
 {
     let source = x.source;
-    let s = part(&*rules, &*goal, &*terms, source, x.at);
+    let s = part(rules, goal, terms, source, x.at);
     if !is_word(s, 1, b"v") {
         return Value::Nothing;
     }
     let Value::Is(v) = number(s, 4) else {
         return Value::Nothing;
     };
-    if is_open(&*room, x, own, v) {
+    if is_open(room, x, own, v) {
         return Value::Is(v);
     }
     Value::Nothing
@@ -242,10 +226,10 @@ pub fn open_at<'a>(
 pub fn is_variable(s: &[u8], at: usize, v: usize) -> bool
     ensures { VariableAt s.now at v result }
 {
-    if !is_word(&*s, plus(at, 1), b"v") {
+    if !is_word(s, plus(at, 1), b"v") {
         return false;
     }
-    match number(&*s, plus(at, 4)) {
+    match number(s, plus(at, 4)) {
         Value::Is(i) => i == v,
         Value::Nothing => false,
     }
@@ -265,8 +249,8 @@ pub fn forced_by<'a>(
 {
     let a = x.source;
     let b = y.source;
-    let s = part(&*rules, &*goal, &*terms, a, x.at);
-    let t = part(&*rules, &*goal, &*terms, b, y.at);
+    let s = part(rules, goal, terms, a, x.at);
+    let t = part(rules, goal, terms, b, y.at);
     let After::Next(i) = past(s, 7, 0) else {
         return Forced::Nothing;
     };
@@ -280,7 +264,7 @@ pub fn forced_by<'a>(
             return Forced::Nothing;
         }
         if is_variable(s, p, v) {
-            return candidate_at(&*rules, &*goal, &*terms, &*room, further(y, q));
+            return candidate_at(rules, goal, terms, room, further(y, q));
         }
         let After::Next(m) = past(s, p, 64) else {
             return Forced::Nothing;

@@ -1,4 +1,4 @@
-// The first strip at a place that has a proof, drawn node by node: of each option in order crate provable is asked, and the walk goes on in the first that has a proof; the numbers of a path or of a chain of `some` that the search has left in the room are taken from there
+// The first strip at a place that has a proof, drawn node by node: of each option in order crate provable is asked, and the walk goes on in the first that has a proof; the numbers of a path that the search has left in the room are taken from there
 // (document 01, "Which strip the search writes"). A node draws its head, lends the remaining part of the buffer to the writer of each of its parts, and draws its closing parenthesis behind them. `at` is 0 but for a part
 // that begins beyond the buffer's end, where nothing is written and the strip is only measured.
 ghost use Rattle.std.specs.Prelude.{ℕ, false};
@@ -7,8 +7,7 @@ ghost use Rattle.room.specs.Where.{files_of};
 ghost use Rattle.drawing.specs.Writing.{Writing, WritingAs, Pathing, PathingAs};
 
 use drawing::{
-    Drawn, behind, beside, close, cut, first_clause, first_left, nothing, number_through,
-    set_binding, set_clause, shut, some_there, top,
+    Drawn, behind, beside, close, cut, first_clause, first_with, nothing, number_through, shut, top,
 };
 use harrop::Binding;
 use packet::Word;
@@ -16,10 +15,11 @@ use pen::{put, put_number};
 use places::{bound, further, past_part, plus, supposes, within, word_there};
 use provable::{prove_goal, through};
 use proving::{Chosen, deeper, is_plain, open_clause};
-use room::{Spot, Where, push};
+use room::{Spot, Where, push, suppose};
 use sexp::After;
+use table::forget;
 
-// The first strip of the goal of a place, within this height. Where `stands`, the search has left in the room what the place and those inside it need.
+// The first strip of the goal of a place, within this height.
 #[cycle(path_all_path_and_write_all_write_body_write_both_write_either_write_goal_write_path_write_some_write_under_write_use)]
 pub fn write_goal<'a>(
     rules: &'a [u8],
@@ -30,9 +30,8 @@ pub fn write_goal<'a>(
     w: Where,
     height: usize,
     at: usize,
-    stands: bool,
 ) -> Drawn
-    ensures { Writing (files_of rules.now goal.now terms.now) room.old room.new strip.old strip.new w height at stands result }
+    ensures { Writing (files_of rules.now goal.now terms.now) room.old room.new strip.old strip.new w height at result }
 {
     if height == 0 {
         return nothing(at);
@@ -42,9 +41,9 @@ pub fn write_goal<'a>(
         Word::Atom => write_use(rules, goal, terms, room, strip, w, height - 1, at),
         Word::And => write_both(rules, goal, terms, room, strip, w, height - 1, at),
         Word::Or => write_either(rules, goal, terms, room, strip, w, height - 1, at),
-        Word::Some => write_some(rules, goal, terms, room, strip, w, height - 1, at, stands),
-        Word::All => write_all(rules, goal, terms, room, strip, w, height - 1, at, stands),
-        Word::Imp => write_under(rules, goal, terms, room, strip, w, height - 1, at, stands),
+        Word::Some => write_some(rules, goal, terms, room, strip, w, height - 1, at),
+        Word::All => write_all(rules, goal, terms, room, strip, w, height - 1, at),
+        Word::Imp => write_under(rules, goal, terms, room, strip, w, height - 1, at),
         _ => nothing(at),
     }
 }
@@ -61,9 +60,9 @@ fn write_both<'a>(
     left: usize,
     at: usize,
 ) -> Drawn
-    ensures { WritingAs W.And (files_of rules.now goal.now terms.now) room.old room.new strip.old strip.new w left at false result }
+    ensures { WritingAs W.And (files_of rules.now goal.now terms.now) room.old room.new strip.old strip.new w left at result }
 {
-    let After::Next(n) = past_part(&*rules, &*goal, &*terms, w.goal, 6) else {
+    let After::Next(n) = past_part(rules, goal, terms, w.goal, 6) else {
         return nothing(at);
     };
     let m = put(strip, at, b"(3:and");
@@ -71,30 +70,28 @@ fn write_both<'a>(
     let a = behind(
         from,
         write_goal(
-            &*rules,
-            &*goal,
-            &*terms,
+            rules,
+            goal,
+            terms,
             room,
             &mut strip[from..],
             within(w, 6),
             left,
             m - from,
-            false,
         ),
     );
     let from = cut(a.at, strip.len());
     let b = behind(
         from,
         write_goal(
-            &*rules,
-            &*goal,
-            &*terms,
+            rules,
+            goal,
+            terms,
             room,
             &mut strip[from..],
             within(w, n),
             left,
             a.at - from,
-            false,
         ),
     );
     close(strip, beside(a, b))
@@ -112,26 +109,25 @@ fn write_either<'a>(
     left: usize,
     at: usize,
 ) -> Drawn
-    ensures { WritingAs W.Or (files_of rules.now goal.now terms.now) room.old room.new strip.old strip.new w left at false result }
+    ensures { WritingAs W.Or (files_of rules.now goal.now terms.now) room.old room.new strip.old strip.new w left at result }
 {
-    let After::Next(n) = past_part(&*rules, &*goal, &*terms, w.goal, 5) else {
+    let After::Next(n) = past_part(rules, goal, terms, w.goal, 5) else {
         return nothing(at);
     };
-    if prove_goal(&*rules, &*goal, &*terms, room, within(w, 5), left) {
+    if prove_goal(rules, goal, terms, room, within(w, 5), left) {
         let m = put(strip, at, b"(4:left");
         let from = cut(m, strip.len());
         let a = behind(
             from,
             write_goal(
-                &*rules,
-                &*goal,
-                &*terms,
+                rules,
+                goal,
+                terms,
                 room,
                 &mut strip[from..],
                 within(w, 5),
                 left,
                 m - from,
-                false,
             ),
         );
         return close(strip, a);
@@ -141,21 +137,20 @@ fn write_either<'a>(
     let a = behind(
         from,
         write_goal(
-            &*rules,
-            &*goal,
-            &*terms,
+            rules,
+            goal,
+            terms,
             room,
             &mut strip[from..],
             within(w, n),
             left,
             m - from,
-            false,
         ),
     );
     close(strip, a)
 }
 
-// The part of a `some`, with the first candidate for which it has a proof. Its number stands on top of the stack then, and behind it those of the quantifiers inside, so a `some` inside is not asked for.
+// The part of a `some`, with the first candidate for which it has a proof.
 #[cycle(path_all_path_and_write_all_write_body_write_both_write_either_write_goal_write_path_write_some_write_under_write_use)]
 fn write_some<'a>(
     rules: &'a [u8],
@@ -166,35 +161,31 @@ fn write_some<'a>(
     w: Where,
     left: usize,
     at: usize,
-    stands: bool,
 ) -> Drawn
-    ensures { WritingAs W.Some (files_of rules.now goal.now terms.now) room.old room.new strip.old strip.new w left at stands result }
+    ensures { WritingAs W.Some (files_of rules.now goal.now terms.now) room.old room.new strip.old strip.new w left at result }
 {
-    let i = first_left(&*rules, &*goal, &*terms, room, w, left, stands);
+    let i = first_with(rules, goal, terms, room, w, left);
     push(room, w.top, Binding::Candidate(i));
-    let v = bound(w, 7, w.parameters);
-    let again = some_there(&*rules, &*goal, &*terms, v.goal);
     let m = put(strip, at, b"(4:some");
     let m = put_number(strip, m, i as usize);
     let from = cut(m, strip.len());
     let a = behind(
         from,
         write_goal(
-            &*rules,
-            &*goal,
-            &*terms,
+            rules,
+            goal,
+            terms,
             room,
             &mut strip[from..],
-            v,
+            bound(w, 7, w.parameters),
             left,
             m - from,
-            again,
         ),
     );
     close(strip, a)
 }
 
-// The part of an `all`, with one more parameter, which is put on the stack unless it stands there.
+// The part of an `all`, with one more parameter.
 #[cycle(path_all_path_and_write_all_write_body_write_both_write_either_write_goal_write_path_write_some_write_under_write_use)]
 fn write_all<'a>(
     rules: &'a [u8],
@@ -205,35 +196,33 @@ fn write_all<'a>(
     w: Where,
     left: usize,
     at: usize,
-    stands: bool,
 ) -> Drawn
-    ensures { WritingAs W.All (files_of rules.now goal.now terms.now) room.old room.new strip.old strip.new w left at stands result }
+    ensures { WritingAs W.All (files_of rules.now goal.now terms.now) room.old room.new strip.old strip.new w left at result }
 {
     if 64 <= w.parameters {
         return nothing(at);
     }
     let p = w.parameters + 1;
-    set_binding(room, w.top, Binding::Parameter(p as u32), stands);
+    push(room, w.top, Binding::Parameter(p as u32));
     let m = put(strip, at, b"(3:all");
     let from = cut(m, strip.len());
     let a = behind(
         from,
         write_goal(
-            &*rules,
-            &*goal,
-            &*terms,
+            rules,
+            goal,
+            terms,
             room,
             &mut strip[from..],
             bound(w, 6, p),
             left,
             m - from,
-            stands,
         ),
     );
     close(strip, a)
 }
 
-// The part of an `imp`, under its clause, which is supposed unless it is already.
+// The part of an `imp`, under its clause.
 #[cycle(path_all_path_and_write_all_write_body_write_both_write_either_write_goal_write_path_write_some_write_under_write_use)]
 fn write_under<'a>(
     rules: &'a [u8],
@@ -244,31 +233,30 @@ fn write_under<'a>(
     w: Where,
     left: usize,
     at: usize,
-    stands: bool,
 ) -> Drawn
-    ensures { WritingAs W.Imp (files_of rules.now goal.now terms.now) room.old room.new strip.old strip.new w left at stands result }
+    ensures { WritingAs W.Imp (files_of rules.now goal.now terms.now) room.old room.new strip.old strip.new w left at result }
 {
     if left == 0 {
         return nothing(at);
     }
-    let After::Next(n) = past_part(&*rules, &*goal, &*terms, w.goal, 6) else {
+    let After::Next(n) = past_part(rules, goal, terms, w.goal, 6) else {
         return nothing(at);
     };
-    set_clause(room, w, stands);
+    suppose(room, w.supposed, further(w.goal, 6));
+    forget(room, plus(w.supposed, 1));
     let m = put(strip, at, b"(3:imp");
     let from = cut(m, strip.len());
     let a = behind(
         from,
         write_goal(
-            &*rules,
-            &*goal,
-            &*terms,
+            rules,
+            goal,
+            terms,
             room,
             &mut strip[from..],
             supposes(w, n),
             left,
             m - from,
-            stands,
         ),
     );
     close(strip, a)
@@ -286,13 +274,13 @@ fn write_use<'a>(
     left: usize,
     at: usize,
 ) -> Drawn
-    ensures { WritingAs W.Atom (files_of rules.now goal.now terms.now) room.old room.new strip.old strip.new w left at false result }
+    ensures { WritingAs W.Atom (files_of rules.now goal.now terms.now) room.old room.new strip.old strip.new w left at result }
 {
-    let k = first_clause(&*rules, &*goal, &*terms, room, w, left);
+    let k = first_clause(rules, goal, terms, room, w, left);
     let Chosen::Clause(x) = open_clause(room, k, w.supposed, w.top) else {
         return nothing(at);
     };
-    let located = is_plain(&*rules, &*goal, &*terms, x);
+    let located = is_plain(rules, goal, terms, x);
     let m = put(strip, at, b"(3:use");
     let m = put_number(strip, m, k);
     let m = put(strip, m, b"(");
@@ -300,9 +288,9 @@ fn write_use<'a>(
     let a = behind(
         from,
         write_path(
-            &*rules,
-            &*goal,
-            &*terms,
+            rules,
+            goal,
+            terms,
             room,
             &mut strip[from..],
             w,
@@ -336,25 +324,14 @@ fn write_path<'a>(
     if nest == 0 {
         return nothing(at);
     }
-    match word_there(&*rules, &*goal, &*terms, x) {
+    match word_there(rules, goal, terms, x) {
         Word::Atom => shut(strip, at),
-        Word::Imp => write_body(&*rules, &*goal, &*terms, room, strip, w, x, left, at),
-        Word::And => path_and(
-            &*rules,
-            &*goal,
-            &*terms,
-            room,
-            strip,
-            w,
-            x,
-            nest - 1,
-            left,
-            at,
-        ),
+        Word::Imp => write_body(rules, goal, terms, room, strip, w, x, left, at),
+        Word::And => path_and(rules, goal, terms, room, strip, w, x, nest - 1, left, at),
         Word::All => path_all(
-            &*rules,
-            &*goal,
-            &*terms,
+            rules,
+            goal,
+            terms,
             room,
             strip,
             w,
@@ -394,15 +371,14 @@ fn write_body<'a>(
     behind(
         from,
         write_goal(
-            &*rules,
-            &*goal,
-            &*terms,
+            rules,
+            goal,
+            terms,
             room,
             &mut strip[from..],
             body,
             left,
             m - from,
-            false,
         ),
     )
 }
@@ -423,18 +399,18 @@ fn path_and<'a>(
 ) -> Drawn
     ensures { PathingAs W.And (files_of rules.now goal.now terms.now) room.old room.new strip.old strip.new w x nest left at false result }
 {
-    let After::Next(n) = past_part(&*rules, &*goal, &*terms, x, 6) else {
+    let After::Next(n) = past_part(rules, goal, terms, x, 6) else {
         return nothing(at);
     };
-    if through(&*rules, &*goal, &*terms, room, w, further(x, 6), nest, left) {
+    if through(rules, goal, terms, room, w, further(x, 6), nest, left) {
         let m = put(strip, at, b"1:l");
         let from = cut(m, strip.len());
         return behind(
             from,
             write_path(
-                &*rules,
-                &*goal,
-                &*terms,
+                rules,
+                goal,
+                terms,
                 room,
                 &mut strip[from..],
                 w,
@@ -451,9 +427,9 @@ fn path_and<'a>(
     behind(
         from,
         write_path(
-            &*rules,
-            &*goal,
-            &*terms,
+            rules,
+            goal,
+            terms,
             room,
             &mut strip[from..],
             w,
@@ -483,16 +459,16 @@ fn path_all<'a>(
 ) -> Drawn
     ensures { PathingAs W.All (files_of rules.now goal.now terms.now) room.old room.new strip.old strip.new w x nest left at located result }
 {
-    let i = number_through(&*rules, &*goal, &*terms, room, w, x, nest, left, located);
+    let i = number_through(rules, goal, terms, room, w, x, nest, left, located);
     push(room, plus(x.base, x.count), Binding::Candidate(i));
     let m = put_number(strip, at, i as usize);
     let from = cut(m, strip.len());
     behind(
         from,
         write_path(
-            &*rules,
-            &*goal,
-            &*terms,
+            rules,
+            goal,
+            terms,
             room,
             &mut strip[from..],
             w,

@@ -20,15 +20,16 @@ plus-requires c κs = search rules
 chosen-requires : tie.Need-chosen-requires
 chosen-requires c κs = search rules
 
-search-clause-requires : tie.Need-search-clause-requires
-search-clause-requires c κs = search rules
+find-clause-requires : tie.Need-find-clause-requires
+find-clause-requires c κs = search rules
 
 same_length : tie.Need-same-length
 same_length c = search rules
 
 returns : tie.Need-returns
 returns c = let k = c.before.before.before.before.before.before.before.before.before.before.before.both-keys.ensures in
-    c.before.before.search-clause.ensures k.0 k.1
+    let m = c.before.before.find-clause.ensures in
+    (laws.clause-found k.0 k.1 m.0, laws.clause-located k.0 k.1 m.1)
 
 sub-clause : tie.Need-overflow-sub-clause
 sub-clause c = search rules
@@ -36,15 +37,16 @@ sub-clause c = search rules
 has-numbers-requires : tie.Need-has-numbers-requires
 has-numbers-requires c κs = search rules
 
-search-clause-requires-2 : tie.Need-search-clause-requires-2
-search-clause-requires-2 c κs = search rules
+find-clause-requires-2 : tie.Need-find-clause-requires-2
+find-clause-requires-2 c κs = search rules
 
 same-length-2 : tie.Need-same-length-2
 same-length-2 c = search rules
 
 returns-2 : tie.Need-returns-2
 returns-2 c = let k = c.before.before.before.before.before.before.before.before.before.before.before.before.before.before.both-keys.ensures in
-    c.before.before.search-clause2.ensures k.0 k.1
+    let m = c.before.before.find-clause2.ensures in
+    (laws.clause-found k.0 k.1 m.0, laws.clause-located k.0 k.1 m.1)
 
 take-requires : tie.Need-take-requires
 take-requires c κs = search rules
@@ -64,12 +66,12 @@ first-clause-spec =
     slot-for-requires
     plus-requires
     chosen-requires
-    search-clause-requires
+    find-clause-requires
     same_length
     returns
     sub-clause
     has-numbers-requires
-    search-clause-requires-2
+    find-clause-requires-2
     same-length-2
     returns-2
     take-requires

@@ -1,5 +1,5 @@
 -- `heads` of src/equal.rt meets its contract. Assumes nothing.
-use Rattle.equal.proofs.EqualLaws.{heads-once, heads-pair, heads-differ, heads-rest}
+use Rattle.equal.proofs.EqualLaws.{heads-once, heads-differ, heads-rest}
 use borrow.Author.Tests.{not-true, not-false}
 use native.Mathlib.Omega.{arith}
 use borrow.Author.Rules.{rules}
@@ -10,52 +10,42 @@ use Rattle.equal.proofs.equal.heads.Lts as lts
 use Rattle.equal.proofs.equal.after.Reads as after-reads
 use Rattle.equal.proofs.equal.same_spot.Reads as same-spot-reads
 use Rattle.room.proofs.part.Reads as part-reads
-use Rattle.sexp.proofs.same_pair.Reads as same-pair-reads
 use Rattle.sexp.proofs.same_text.Reads as same-text-reads
 
--- src/equal.rt:154:8
+-- src/equal.rt:152:8
 same-spot-requires : tie.Need-same-spot-requires
 same-spot-requires c κs = search rules
 
--- src/equal.rt:155:9
+-- src/equal.rt:153:9
 returns : tie.Need-returns
 returns c = let x = c.before.before.before.before.before.args in
     heads-once x.rules.now x.goal.now x.terms.now x.x x.y (c.before.same_spot.ensures c.if1.true)
 
--- src/equal.rt:159:9
+-- src/equal.rt:157:9
 part-requires : tie.Need-part-requires
 part-requires c κs = search rules
 
--- src/equal.rt:160:9
+-- src/equal.rt:158:9
 part-requires-2 : tie.Need-part-requires-2
 part-requires-2 c κs = search rules
 
--- src/equal.rt:161:8
-same-pair-requires : tie.Need-same-pair-requires
-same-pair-requires c κs = search rules
-
--- src/equal.rt:162:9
-returns-2 : tie.Need-returns-2
-returns-2 c = let x = c.before.before.before.before.before.before.before.before.before.args in
-    heads-pair x.rules.now x.goal.now x.terms.now x.x x.y c.before.before.before.part.ensures c.before.before.part2.ensures (c.before.same-pair.ensures c.if2.true)
-
--- src/equal.rt:164:9
+-- src/equal.rt:159:9
 same-text-requires : tie.Need-same-text-requires
 same-text-requires c κs = search rules
 
--- src/equal.rt:165:9
-returns-3 : tie.Need-returns-3
-returns-3 c = let x = c.before.before.before.before.before.before.before.before.before.before.before.args in
-    heads-differ x.rules.now x.goal.now x.terms.now x.x x.y c.before.before.before.before.before.part.ensures c.before.before.before.before.part2.ensures c.before.same_text.ensures (not-true c.before.same_text.result c.if3.true)
+-- src/equal.rt:160:9
+returns-2 : tie.Need-returns-2
+returns-2 c = let x = c.before.before.before.before.before.before.before.before.before.args in
+    heads-differ x.rules.now x.goal.now x.terms.now x.x x.y c.before.before.before.part.ensures c.before.before.part2.ensures c.before.same_text.ensures (not-true c.before.same_text.result c.if2.true)
 
--- src/equal.rt:167:5
+-- src/equal.rt:162:5
 after-requires : tie.Need-after-requires
 after-requires c κs = search rules
 
--- src/equal.rt:151:1
-returns-4 : tie.Need-returns-4
-returns-4 c = let x = c.before.before.before.before.before.before.before.before.before.before.before.before.args in
-    heads-rest x.rules.now x.goal.now x.terms.now x.x x.y c.before.before.before.before.before.before.part.ensures c.before.before.before.before.before.part2.ensures c.before.before.same_text.ensures (not-false c.before.before.same_text.result c.before.if3.false) c.after.result c.after.ensures
+-- src/equal.rt:149:1
+returns-3 : tie.Need-returns-3
+returns-3 c = let x = c.before.before.before.before.before.before.before.before.before.before.args in
+    heads-rest x.rules.now x.goal.now x.terms.now x.x x.y c.before.before.before.before.part.ensures c.before.before.before.part2.ensures c.before.before.same_text.ensures (not-false c.before.before.same_text.result c.before.if2.false) c.after.result c.after.ensures
 
 pub heads-spec : {M : Type 1} → statement M
 heads-spec =
@@ -65,9 +55,7 @@ heads-spec =
     returns
     part-requires
     part-requires-2
-    same-pair-requires
-    returns-2
     same-text-requires
-    returns-3
+    returns-2
     after-requires
-    returns-4)
+    returns-3)

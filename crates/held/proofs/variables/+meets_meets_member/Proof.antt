@@ -1,12 +1,13 @@
 -- `meets` and `meets_member` of src/variables.rt meet their contracts: the nesting that is left falls at each list; the loop walks through the members of one list (`Meeting`), and the bytes left fall. Assumes nothing.
 use mathlib.Core.Path.{sym, ◌∙◌}
-use mathlib.Core.Bool.{true}
+use mathlib.Core.Bool.{true, false}
 use lib.ListN.{length, get_or}
 use borrow.Author.Tests.{eqb-true, not-true, not-false}
 use Rattle.sexp.proofs.SkipLaws.{past-deep}
 use Rattle.room.specs.Spot.{bindings_at}
 use Rattle.mentions.specs.Open.{asked}
-use Rattle.held.proofs.MeetLaws.{Meeting, word-there, meets-flat, meets-string, variable-short, meeting-start, meeting-end, meeting-asked, meeting-lost, meeting-next, meeting-less}
+use Rattle.held.proofs.VariableLaws.{held-flat}
+use Rattle.held.proofs.MeetLaws.{Meeting, word-there, meets-ended, meeting-start, meeting-end, meeting-asked, meeting-lost, meeting-next, meeting-less}
 use native.Mathlib.Omega.{arith}
 use borrow.Author.Rules.{rules}
 use Prim.Native.Nat.{ℕ, ◌<◌, ◌+◌, ◌-◌, ◌*◌}
@@ -21,12 +22,9 @@ use Rattle.held.proofs.variables.+meets_meets_member.Lts-meets_member as meets-m
 use Rattle.held.proofs.variables.around.Reads as around-reads
 use Rattle.held.proofs.variables.either.Reads as either-reads
 use Rattle.held.proofs.variables.ended.Reads as ended-reads
-use Rattle.held.proofs.variables.met_variable.Reads as met-variable-reads
 use Rattle.held.proofs.variables.meets_variable.Reads as meets-variable-reads
 use Rattle.places.proofs.plus.Reads as plus-reads
 use Rattle.sexp.proofs.past.Reads as past-reads
-use Rattle.sexp.proofs.short_string.Reads as short-string-reads
-use Rattle.sexp.proofs.short_variable.Reads as short-variable-reads
 use Rattle.sexp.proofs.closes.Reads as closes-reads
 use Rattle.sexp.proofs.opens.Reads as opens-reads
 use Rattle.sexp.proofs.is_word.Reads as is-word-reads
@@ -73,7 +71,8 @@ meets-ended-requires t c κs = search rules
 meets-returns : (t : ℕ) → meets-lts.Need-returns (opens-reads.Asked, opens-reads.Learnt, past-reads.Asked, past-reads.Learnt, ended-reads.Asked, ended-reads.Learnt, plus-reads.Asked, plus-reads.Learnt, is-word-reads.Asked, is-word-reads.Learnt, meets-variable-reads.Asked, meets-variable-reads.Learnt, around-reads.Asked, around-reads.Learnt, closes-reads.Asked, closes-reads.Learnt, meets-member-below t, meets-member.Post, either-reads.Asked, either-reads.Learnt) (meets_at t) meets.Post meets-Inv-loop meets-μ-loop
 meets-returns t c = let x = c.before.before.before.before.before.before.args in
     let bs = bindings_at x.room.now x.x in
-    meets-flat x.s.now x.at x.depth x.nest (asked x.own bs x.also x.v) (asked x.own bs true x.v) c.before.before.before.opens.ensures (not-true c.before.before.before.opens.result c.before.before.if1.true) c.before.past.result c.ended.ensures c.before.past.ensures
+    let flat = not-true c.before.before.before.opens.result c.before.before.if1.true in
+    meets-ended x.s.now x.at x.depth x.nest (asked x.own bs x.also x.v) (asked x.own bs true x.v) c.before.past.result false c.ended.ensures c.before.past.ensures (held-flat x.s.now x.at x.depth x.nest (asked x.own bs x.also x.v) c.before.before.before.opens.ensures flat) (held-flat x.s.now x.at x.depth x.nest (asked x.own bs true x.v) c.before.before.before.opens.ensures flat)
 
 -- src/variables.rt:146:9
 meets-returns-2 : (t : ℕ) → meets-lts.Need-returns-2 (opens-reads.Asked, opens-reads.Learnt, past-reads.Asked, past-reads.Learnt, ended-reads.Asked, ended-reads.Learnt, plus-reads.Asked, plus-reads.Learnt, is-word-reads.Asked, is-word-reads.Learnt, meets-variable-reads.Asked, meets-variable-reads.Learnt, around-reads.Asked, around-reads.Learnt, closes-reads.Asked, closes-reads.Learnt, meets-member-below t, meets-member.Post, either-reads.Asked, either-reads.Learnt) (meets_at t) meets.Post meets-Inv-loop meets-μ-loop
@@ -178,51 +177,26 @@ meets-returns-6 t c = let x = c.before.before.before.before.before.before.before
     let bs = bindings_at x.room.now x.x in
     meeting-end x.s.now x.at x.depth x.nest (asked x.own bs x.also x.v) (asked x.own bs true x.v) c.before.before.before.before.before.before.before.before.before.before.before.before.opens.ensures (not-false c.before.before.before.before.before.before.before.before.before.before.before.before.opens.result c.before.before.before.before.before.before.before.before.before.before.before.if1.false) c.before.before.before.before.before.before.before.before.before.before.if2.false c.before.before.before.loop.invariant c.before.before.closes.ensures (omega arith) (not-false c.before.before.closes.result c.before.if4.false) c.plus3.ensures
 
-meets-member-opens-requires : (t : ℕ) → meets-member-lts.Need-opens-requires (opens-reads.Asked, opens-reads.Learnt, short-string-reads.Asked, short-string-reads.Learnt, past-reads.Asked, past-reads.Learnt, ended-reads.Asked, ended-reads.Learnt, short-variable-reads.Asked, short-variable-reads.Learnt, plus-reads.Asked, plus-reads.Learnt, met-variable-reads.Asked, met-variable-reads.Learnt, meets-below t, meets.Post) (meets-member-at t) meets-member.Post
+meets-member-opens-requires : (t : ℕ) → meets-member-lts.Need-opens-requires (opens-reads.Asked, opens-reads.Learnt, past-reads.Asked, past-reads.Learnt, ended-reads.Asked, ended-reads.Learnt, meets-below t, meets.Post) (meets-member-at t) meets-member.Post
 meets-member-opens-requires t c κs = search rules
 
-meets-member-short-string-requires : (t : ℕ) → meets-member-lts.Need-short-string-requires (opens-reads.Asked, opens-reads.Learnt, short-string-reads.Asked, short-string-reads.Learnt, past-reads.Asked, past-reads.Learnt, ended-reads.Asked, ended-reads.Learnt, short-variable-reads.Asked, short-variable-reads.Learnt, plus-reads.Asked, plus-reads.Learnt, met-variable-reads.Asked, met-variable-reads.Learnt, meets-below t, meets.Post) (meets-member-at t) meets-member.Post
-meets-member-short-string-requires t c κs = search rules
-
-meets-member-returns : (t : ℕ) → meets-member-lts.Need-returns (opens-reads.Asked, opens-reads.Learnt, short-string-reads.Asked, short-string-reads.Learnt, past-reads.Asked, past-reads.Learnt, ended-reads.Asked, ended-reads.Learnt, short-variable-reads.Asked, short-variable-reads.Learnt, plus-reads.Asked, plus-reads.Learnt, met-variable-reads.Asked, met-variable-reads.Learnt, meets-below t, meets.Post) (meets-member-at t) meets-member.Post
-meets-member-returns t c = let x = c.before.before.before.before.before.before.args in
-    let bs = bindings_at x.room.now x.x in
-    meets-string x.s.now x.at x.depth x.nest (asked x.own bs x.also x.v) (asked x.own bs true x.v) c.before.before.before.opens.ensures (not-true c.before.before.before.opens.result c.before.before.if1.true) (c.before.short-string.ensures c.if2.true)
-
-meets-member-past-requires : (t : ℕ) → meets-member-lts.Need-past-requires (opens-reads.Asked, opens-reads.Learnt, short-string-reads.Asked, short-string-reads.Learnt, past-reads.Asked, past-reads.Learnt, ended-reads.Asked, ended-reads.Learnt, short-variable-reads.Asked, short-variable-reads.Learnt, plus-reads.Asked, plus-reads.Learnt, met-variable-reads.Asked, met-variable-reads.Learnt, meets-below t, meets.Post) (meets-member-at t) meets-member.Post
+meets-member-past-requires : (t : ℕ) → meets-member-lts.Need-past-requires (opens-reads.Asked, opens-reads.Learnt, past-reads.Asked, past-reads.Learnt, ended-reads.Asked, ended-reads.Learnt, meets-below t, meets.Post) (meets-member-at t) meets-member.Post
 meets-member-past-requires t c κs = search rules
 
-meets-member-ended-requires : (t : ℕ) → meets-member-lts.Need-ended-requires (opens-reads.Asked, opens-reads.Learnt, short-string-reads.Asked, short-string-reads.Learnt, past-reads.Asked, past-reads.Learnt, ended-reads.Asked, ended-reads.Learnt, short-variable-reads.Asked, short-variable-reads.Learnt, plus-reads.Asked, plus-reads.Learnt, met-variable-reads.Asked, met-variable-reads.Learnt, meets-below t, meets.Post) (meets-member-at t) meets-member.Post
+meets-member-ended-requires : (t : ℕ) → meets-member-lts.Need-ended-requires (opens-reads.Asked, opens-reads.Learnt, past-reads.Asked, past-reads.Learnt, ended-reads.Asked, ended-reads.Learnt, meets-below t, meets.Post) (meets-member-at t) meets-member.Post
 meets-member-ended-requires t c κs = search rules
 
-meets-member-returns-2 : (t : ℕ) → meets-member-lts.Need-returns-2 (opens-reads.Asked, opens-reads.Learnt, short-string-reads.Asked, short-string-reads.Learnt, past-reads.Asked, past-reads.Learnt, ended-reads.Asked, ended-reads.Learnt, short-variable-reads.Asked, short-variable-reads.Learnt, plus-reads.Asked, plus-reads.Learnt, met-variable-reads.Asked, met-variable-reads.Learnt, meets-below t, meets.Post) (meets-member-at t) meets-member.Post
-meets-member-returns-2 t c = let x = c.before.before.before.before.before.before.before.before.args in
+meets-member-returns : (t : ℕ) → meets-member-lts.Need-returns (opens-reads.Asked, opens-reads.Learnt, past-reads.Asked, past-reads.Learnt, ended-reads.Asked, ended-reads.Learnt, meets-below t, meets.Post) (meets-member-at t) meets-member.Post
+meets-member-returns t c = let x = c.before.before.before.before.before.before.args in
     let bs = bindings_at x.room.now x.x in
-    meets-flat x.s.now x.at x.depth x.nest (asked x.own bs x.also x.v) (asked x.own bs true x.v) c.before.before.before.before.before.opens.ensures (not-true c.before.before.before.before.before.opens.result c.before.before.before.before.if1.true) c.before.past.result c.ended.ensures c.before.past.ensures
+    let flat = not-true c.before.before.before.opens.result c.before.before.if1.true in
+    meets-ended x.s.now x.at x.depth x.nest (asked x.own bs x.also x.v) (asked x.own bs true x.v) c.before.past.result false c.ended.ensures c.before.past.ensures (held-flat x.s.now x.at x.depth x.nest (asked x.own bs x.also x.v) c.before.before.before.opens.ensures flat) (held-flat x.s.now x.at x.depth x.nest (asked x.own bs true x.v) c.before.before.before.opens.ensures flat)
 
-meets-member-short-variable-requires : (t : ℕ) → meets-member-lts.Need-short-variable-requires (opens-reads.Asked, opens-reads.Learnt, short-string-reads.Asked, short-string-reads.Learnt, past-reads.Asked, past-reads.Learnt, ended-reads.Asked, ended-reads.Learnt, short-variable-reads.Asked, short-variable-reads.Learnt, plus-reads.Asked, plus-reads.Learnt, met-variable-reads.Asked, met-variable-reads.Learnt, meets-below t, meets.Post) (meets-member-at t) meets-member.Post
-meets-member-short-variable-requires t c κs = search rules
-
-meets-member-returns-3 : (t : ℕ) → meets-member-lts.Need-returns-3 (opens-reads.Asked, opens-reads.Learnt, short-string-reads.Asked, short-string-reads.Learnt, past-reads.Asked, past-reads.Learnt, ended-reads.Asked, ended-reads.Learnt, short-variable-reads.Asked, short-variable-reads.Learnt, plus-reads.Asked, plus-reads.Learnt, met-variable-reads.Asked, met-variable-reads.Learnt, meets-below t, meets.Post) (meets-member-at t) meets-member.Post
-meets-member-returns-3 t c = let x = c.before.before.before.before.before.before.before.args in
-    past-deep x.s.now x.at x.nest (c.before.before.short-variable.ensures.opens c.before.if3.true) c.if4.true
-
-meets-member-plus-requires : (t : ℕ) → meets-member-lts.Need-plus-requires (opens-reads.Asked, opens-reads.Learnt, short-string-reads.Asked, short-string-reads.Learnt, past-reads.Asked, past-reads.Learnt, ended-reads.Asked, ended-reads.Learnt, short-variable-reads.Asked, short-variable-reads.Learnt, plus-reads.Asked, plus-reads.Learnt, met-variable-reads.Asked, met-variable-reads.Learnt, meets-below t, meets.Post) (meets-member-at t) meets-member.Post
-meets-member-plus-requires t c κs = search rules
-
-meets-member-met-variable-requires : (t : ℕ) → meets-member-lts.Need-met-variable-requires (opens-reads.Asked, opens-reads.Learnt, short-string-reads.Asked, short-string-reads.Learnt, past-reads.Asked, past-reads.Learnt, ended-reads.Asked, ended-reads.Learnt, short-variable-reads.Asked, short-variable-reads.Learnt, plus-reads.Asked, plus-reads.Learnt, met-variable-reads.Asked, met-variable-reads.Learnt, meets-below t, meets.Post) (meets-member-at t) meets-member.Post
-meets-member-met-variable-requires t c κs = search rules
-
-meets-member-returns-4 : (t : ℕ) → meets-member-lts.Need-returns-4 (opens-reads.Asked, opens-reads.Learnt, short-string-reads.Asked, short-string-reads.Learnt, past-reads.Asked, past-reads.Learnt, ended-reads.Asked, ended-reads.Learnt, short-variable-reads.Asked, short-variable-reads.Learnt, plus-reads.Asked, plus-reads.Learnt, met-variable-reads.Asked, met-variable-reads.Learnt, meets-below t, meets.Post) (meets-member-at t) meets-member.Post
-meets-member-returns-4 t c = let x = c.before.before.before.before.before.before.before.before.before.args in
-    let bs = bindings_at x.room.now x.x in
-    variable-short x.s.now x.at x.depth x.nest (asked x.own bs x.also x.v) (asked x.own bs true x.v) (omega arith) c.before.before.before.before.short-variable.ensures c.before.before.before.if3.true c.before.before.if4.false c.before.plus.ensures c.met-variable.ensures
-
-meets-member-meets-requires : (t : ℕ) → meets-member-lts.Need-meets-requires (opens-reads.Asked, opens-reads.Learnt, short-string-reads.Asked, short-string-reads.Learnt, past-reads.Asked, past-reads.Learnt, ended-reads.Asked, ended-reads.Learnt, short-variable-reads.Asked, short-variable-reads.Learnt, plus-reads.Asked, plus-reads.Learnt, met-variable-reads.Asked, met-variable-reads.Learnt, meets-below t, meets.Post) (meets-member-at t) meets-member.Post
+meets-member-meets-requires : (t : ℕ) → meets-member-lts.Need-meets-requires (opens-reads.Asked, opens-reads.Learnt, past-reads.Asked, past-reads.Learnt, ended-reads.Asked, ended-reads.Learnt, meets-below t, meets.Post) (meets-member-at t) meets-member.Post
 meets-member-meets-requires t c κs = search rules
 
-meets-member-returns-5 : (t : ℕ) → meets-member-lts.Need-returns-5 (opens-reads.Asked, opens-reads.Learnt, short-string-reads.Asked, short-string-reads.Learnt, past-reads.Asked, past-reads.Learnt, ended-reads.Asked, ended-reads.Learnt, short-variable-reads.Asked, short-variable-reads.Learnt, plus-reads.Asked, plus-reads.Learnt, met-variable-reads.Asked, met-variable-reads.Learnt, meets-below t, meets.Post) (meets-member-at t) meets-member.Post
-meets-member-returns-5 t c = c.meets.ensures
+meets-member-returns-2 : (t : ℕ) → meets-member-lts.Need-returns-2 (opens-reads.Asked, opens-reads.Learnt, past-reads.Asked, past-reads.Learnt, ended-reads.Asked, ended-reads.Learnt, meets-below t, meets.Post) (meets-member-at t) meets-member.Post
+meets-member-returns-2 t c = c.meets.ensures
 
 pub +meets-meets-member-spec : {M : Type 1} → statement M
 +meets-meets-member-spec = close μ-meets μ-meets-member (λ t. meets-lts.spec (opens-reads.Asked, opens-reads.Learnt, past-reads.Asked, past-reads.Learnt, ended-reads.Asked, ended-reads.Learnt, plus-reads.Asked, plus-reads.Learnt, is-word-reads.Asked, is-word-reads.Learnt, meets-variable-reads.Asked, meets-variable-reads.Learnt, around-reads.Asked, around-reads.Learnt, closes-reads.Asked, closes-reads.Learnt, meets-member-below t, meets-member.Post, either-reads.Asked, either-reads.Learnt)
@@ -256,19 +230,12 @@ pub +meets-meets-member-spec : {M : Type 1} → statement M
     (meets-returns-5 t)
     (meets-plus-requires-3 t)
     (meets-returns-6 t))
-    λ t. meets-member-lts.spec (opens-reads.Asked, opens-reads.Learnt, short-string-reads.Asked, short-string-reads.Learnt, past-reads.Asked, past-reads.Learnt, ended-reads.Asked, ended-reads.Learnt, short-variable-reads.Asked, short-variable-reads.Learnt, plus-reads.Asked, plus-reads.Learnt, met-variable-reads.Asked, met-variable-reads.Learnt, meets-below t, meets.Post)
+    λ t. meets-member-lts.spec (opens-reads.Asked, opens-reads.Learnt, past-reads.Asked, past-reads.Learnt, ended-reads.Asked, ended-reads.Learnt, meets-below t, meets.Post)
     (meets-member-at t)
     meets-member.Post
     (meets-member-opens-requires t)
-    (meets-member-short-string-requires t)
-    (meets-member-returns t)
     (meets-member-past-requires t)
     (meets-member-ended-requires t)
-    (meets-member-returns-2 t)
-    (meets-member-short-variable-requires t)
-    (meets-member-returns-3 t)
-    (meets-member-plus-requires t)
-    (meets-member-met-variable-requires t)
-    (meets-member-returns-4 t)
+    (meets-member-returns t)
     (meets-member-meets-requires t)
-    (meets-member-returns-5 t)
+    (meets-member-returns-2 t)

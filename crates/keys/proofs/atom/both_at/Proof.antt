@@ -1,12 +1,10 @@
 -- `both_at` of src/atom.rt meets its contract: the walk of `row_key` and that of `keys_at` at once. Assumes nothing.
-use Prim.Native.Nat.{◌+◌, ◌-◌}
-use mathlib.Core.Path.{refl}
+use Prim.Native.Nat.{◌-◌}
 use lib.ListN.{length}
 use borrow.Author.Tests.{not-true, not-false}
-use Rattle.sexp.specs.declared.skip.After.TheVariants as A
 use Rattle.equal.proofs.RestLaws.{past-on}
 use Rattle.keys.proofs.AtomLaws.{RowLeft, row-start, row-lost, row_next, row-end}
-use Rattle.keys.proofs.WalkLaws.{KeysLeft, keys-start, keys-lost, keys-next, keys-end, short-key, short-past}
+use Rattle.keys.proofs.WalkLaws.{KeysLeft, keys-start, keys-lost, keys-next, keys-end}
 use borrow.Author.Rules.{rules}
 use Rattle.keys.proofs.atom.both_at.Statement.{statement}
 use Rattle.keys.proofs.atom.both_at.Tie as tie
@@ -26,32 +24,11 @@ closes-requires c κs = search rules
 mix-requires : tie.Need-mix-requires invariant-loop decreases-loop
 mix-requires c κs = search rules
 
-short-variable-requires : tie.Need-short-variable-requires invariant-loop decreases-loop
-short-variable-requires c κs = search rules
-
-bound-key-requires : tie.Need-bound-key-requires invariant-loop decreases-loop
-bound-key-requires c κs = search rules
-
-mix-requires-2 : tie.Need-mix-requires-2 invariant-loop decreases-loop
-mix-requires-2 c κs = search rules
-
-add-p : tie.Need-overflow-add-p invariant-loop decreases-loop
-add-p c = let h = c.before.before.before.short-variable.ensures.inside c.before.before.if2.true in search rules
-
-loop-less : tie.Need-loop-smaller invariant-loop decreases-loop
-loop-less c = let h = c.before.before.before.short-variable.ensures.inside c.before.before.if2.true in search rules
-
-loop-again : tie.Need-loop-preserved invariant-loop decreases-loop
-loop-again c = let x = c.before.before.before.before.before.before.before.before.before.before.args in
-    let l = c.before.before.before.before.before.before.before.loop in
-    let e = short-past x.s.now l.p c.before.before.before.short-variable.ensures c.before.before.if2.true in
-    (row_next x.s.now x.at x.h l.p l.predicate l.invariant.0 c.before.before.before.before.before.before.closes.ensures (not-true c.before.before.before.before.before.before.closes.result c.before.before.before.before.before.if1.true) {a = A.Next (l.p + 8)} c.before.before.before.before.mix.result c.before.before.before.before.mix.ensures refl e, keys-next x.s.now x.at x.room.now x.x x.h 64 l.p l.key l.invariant.1 c.before.before.before.before.before.before.closes.ensures (not-true c.before.before.before.before.before.before.closes.result c.before.before.before.before.before.if1.true) (short-key x.s.now l.p c.before.before.before.short-variable.ensures c.before.before.if2.true x.room.now x.x 64 c.before.bound-key.ensures) {a = A.Next (l.p + 8)} c.mix2.result c.mix2.ensures refl e)
-
 key-at-requires : tie.Need-key-at-requires invariant-loop decreases-loop
 key-at-requires c κs = search rules
 
-mix-requires-3 : tie.Need-mix-requires-3 invariant-loop decreases-loop
-mix-requires-3 c κs = search rules
+mix-requires-2 : tie.Need-mix-requires-2 invariant-loop decreases-loop
+mix-requires-2 c κs = search rules
 
 past-requires : tie.Need-past-requires invariant-loop decreases-loop
 past-requires c κs = search rules
@@ -63,20 +40,20 @@ enum_told : tie.Need-enum-told invariant-loop decreases-loop
 enum_told c = search rules
 
 returns : tie.Need-returns invariant-loop decreases-loop
-returns c = let x = c.before.before.before.before.before.before.before.before.before.before.before.before.before.args in
-    let l = c.before.before.before.before.before.before.before.before.before.before.loop in
-    (row-lost x.s.now x.at x.h l.p l.predicate l.invariant.0 c.before.before.before.before.before.before.before.before.before.closes.ensures (not-true c.before.before.before.before.before.before.before.before.before.closes.result c.before.before.before.before.before.before.before.before.if1.true) c.enum_told.given.1 c.before.before.past.ensures, keys-lost x.s.now x.at x.room.now x.x x.h 64 l.p l.key l.invariant.1 c.before.before.before.before.before.before.before.before.before.closes.ensures (not-true c.before.before.before.before.before.before.before.before.before.closes.result c.before.before.before.before.before.before.before.before.if1.true) c.before.before.before.before.key-at.ensures c.enum_told.given.1 c.before.before.past.ensures)
+returns c = let x = c.before.before.before.before.before.before.before.before.before.before.before.args in
+    let l = c.before.before.before.before.before.before.before.before.loop in
+    (row-lost x.s.now x.at x.h l.p l.predicate l.invariant.0 c.before.before.before.before.before.before.before.closes.ensures (not-true c.before.before.before.before.before.before.before.closes.result c.before.before.before.before.before.before.if1.true) c.enum_told.given.1 c.before.before.past.ensures, keys-lost x.s.now x.at x.room.now x.x x.h 64 l.p l.key l.invariant.1 c.before.before.before.before.before.before.before.closes.ensures (not-true c.before.before.before.before.before.before.before.closes.result c.before.before.before.before.before.before.if1.true) c.before.before.before.before.key-at.ensures c.enum_told.given.1 c.before.before.past.ensures)
 
-loop-less-2 : tie.Need-loop-smaller-2 invariant-loop decreases-loop
-loop-less-2 c = let x = c.before.before.before.before.before.before.before.before.before.before.before.before.before.before.args in
-    let l = c.before.before.before.before.before.before.before.before.before.before.before.loop in
+loop-less : tie.Need-loop-smaller invariant-loop decreases-loop
+loop-less c = let x = c.before.before.before.before.before.before.before.before.before.before.before.before.args in
+    let l = c.before.before.before.before.before.before.before.before.before.loop in
     let h = past-on x.s.now l.p 64 c.before.n.given.1 c.before.before.before.past.ensures in
     search rules
 
-loop-again-2 : tie.Need-loop-preserved-2 invariant-loop decreases-loop
-loop-again-2 c = let x = c.before.before.before.before.before.before.before.before.before.before.before.before.before.before.args in
-    let l = c.before.before.before.before.before.before.before.before.before.before.before.loop in
-    (row_next x.s.now x.at x.h l.p l.predicate l.invariant.0 c.before.before.before.before.before.before.before.before.before.before.closes.ensures (not-true c.before.before.before.before.before.before.before.before.before.before.closes.result c.before.before.before.before.before.before.before.before.before.if1.true) c.before.before.before.before.before.before.before.before.mix.result c.before.before.before.before.before.before.before.before.mix.ensures c.before.n.given.1 c.before.before.before.past.ensures, keys-next x.s.now x.at x.room.now x.x x.h 64 l.p l.key l.invariant.1 c.before.before.before.before.before.before.before.before.before.before.closes.ensures (not-true c.before.before.before.before.before.before.before.before.before.before.closes.result c.before.before.before.before.before.before.before.before.before.if1.true) c.before.before.before.before.before.key-at.ensures c.before.before.before.before.mix3.result c.before.before.before.before.mix3.ensures c.before.n.given.1 c.before.before.before.past.ensures)
+loop-again : tie.Need-loop-preserved invariant-loop decreases-loop
+loop-again c = let x = c.before.before.before.before.before.before.before.before.before.before.before.before.args in
+    let l = c.before.before.before.before.before.before.before.before.before.loop in
+    (row_next x.s.now x.at x.h l.p l.predicate l.invariant.0 c.before.before.before.before.before.before.before.before.closes.ensures (not-true c.before.before.before.before.before.before.before.before.closes.result c.before.before.before.before.before.before.before.if1.true) c.before.before.before.before.before.before.mix.result c.before.before.before.before.before.before.mix.ensures c.before.n.given.1 c.before.before.before.past.ensures, keys-next x.s.now x.at x.room.now x.x x.h 64 l.p l.key l.invariant.1 c.before.before.before.before.before.before.before.before.closes.ensures (not-true c.before.before.before.before.before.before.before.before.closes.result c.before.before.before.before.before.before.before.if1.true) c.before.before.before.before.before.key-at.ensures c.before.before.before.before.mix2.result c.before.before.before.before.mix2.ensures c.before.n.given.1 c.before.before.before.past.ensures)
 
 returns-2 : tie.Need-returns-2 invariant-loop decreases-loop
 returns-2 c = let x = c.before.before.before.before.before.args in
@@ -92,18 +69,12 @@ both-at-spec =
     loop-holds
     closes-requires
     mix-requires
-    short-variable-requires
-    bound-key-requires
-    mix-requires-2
-    add-p
-    loop-less
-    loop-again
     key-at-requires
-    mix-requires-3
+    mix-requires-2
     past-requires
     enum-known-n
     enum_told
     returns
-    loop-less-2
-    loop-again-2
+    loop-less
+    loop-again
     returns-2)

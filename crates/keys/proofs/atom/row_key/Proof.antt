@@ -1,12 +1,9 @@
 -- `row_key` of src/atom.rt meets its contract. Assumes nothing.
-use Prim.Native.Nat.{◌+◌, ◌-◌}
-use mathlib.Core.Path.{refl}
+use Prim.Native.Nat.{◌-◌}
 use lib.ListN.{length}
 use borrow.Author.Tests.{not-true, not-false}
-use Rattle.sexp.specs.declared.skip.After.TheVariants as A
 use Rattle.equal.proofs.RestLaws.{past-on}
 use Rattle.keys.proofs.AtomLaws.{RowLeft, row-start, row-lost, row_next, row-end}
-use Rattle.keys.proofs.WalkLaws.{short-past}
 use borrow.Author.Rules.{rules}
 use Rattle.keys.proofs.atom.row_key.Statement.{statement}
 use Rattle.keys.proofs.atom.row_key.Tie as tie
@@ -26,20 +23,6 @@ closes-requires c κs = search rules
 mix-requires : tie.Need-mix-requires invariant-loop decreases-loop
 mix-requires c κs = search rules
 
-short-variable-requires : tie.Need-short-variable-requires invariant-loop decreases-loop
-short-variable-requires c κs = search rules
-
-add-p : tie.Need-overflow-add-p invariant-loop decreases-loop
-add-p c = let h = c.before.short-variable.ensures.inside c.if2.true in search rules
-
-loop-less : tie.Need-loop-smaller invariant-loop decreases-loop
-loop-less c = let h = c.before.short-variable.ensures.inside c.if2.true in search rules
-
-loop-again : tie.Need-loop-preserved invariant-loop decreases-loop
-loop-again c = let x = c.before.before.before.before.before.before.before.args in
-    let l = c.before.before.before.before.before.loop in
-    row_next x.s.now x.at x.h l.p l.k l.invariant c.before.before.before.before.closes.ensures (not-true c.before.before.before.before.closes.result c.before.before.before.if1.true) {a = A.Next (l.p + 8)} c.before.before.mix.result c.before.before.mix.ensures refl (short-past x.s.now l.p c.before.short-variable.ensures c.if2.true)
-
 past-requires : tie.Need-past-requires invariant-loop decreases-loop
 past-requires c κs = search rules
 
@@ -50,20 +33,20 @@ enum_told : tie.Need-enum-told invariant-loop decreases-loop
 enum_told c = search rules
 
 returns : tie.Need-returns invariant-loop decreases-loop
-returns c = let x = c.before.before.before.before.before.before.before.before.before.before.args in
-    let l = c.before.before.before.before.before.before.before.before.loop in
-    row-lost x.s.now x.at x.h l.p l.k l.invariant c.before.before.before.before.before.before.before.closes.ensures (not-true c.before.before.before.before.before.before.before.closes.result c.before.before.before.before.before.before.if1.true) c.enum_told.given.1 c.before.before.past.ensures
+returns c = let x = c.before.before.before.before.before.before.before.before.args in
+    let l = c.before.before.before.before.before.before.loop in
+    row-lost x.s.now x.at x.h l.p l.k l.invariant c.before.before.before.before.before.closes.ensures (not-true c.before.before.before.before.before.closes.result c.before.before.before.before.if1.true) c.enum_told.given.1 c.before.before.past.ensures
 
-loop-less-2 : tie.Need-loop-smaller-2 invariant-loop decreases-loop
-loop-less-2 c = let x = c.before.before.before.before.before.before.before.before.before.before.before.args in
-    let l = c.before.before.before.before.before.before.before.before.before.loop in
+loop-less : tie.Need-loop-smaller invariant-loop decreases-loop
+loop-less c = let x = c.before.before.before.before.before.before.before.before.before.args in
+    let l = c.before.before.before.before.before.before.before.loop in
     let h = past-on x.s.now l.p 64 c.before.n.given.1 c.before.before.before.past.ensures in
     search rules
 
-loop-again-2 : tie.Need-loop-preserved-2 invariant-loop decreases-loop
-loop-again-2 c = let x = c.before.before.before.before.before.before.before.before.before.before.before.args in
-    let l = c.before.before.before.before.before.before.before.before.before.loop in
-    row_next x.s.now x.at x.h l.p l.k l.invariant c.before.before.before.before.before.before.before.before.closes.ensures (not-true c.before.before.before.before.before.before.before.before.closes.result c.before.before.before.before.before.before.before.if1.true) c.before.before.before.before.before.before.mix.result c.before.before.before.before.before.before.mix.ensures c.before.n.given.1 c.before.before.before.past.ensures
+loop-again : tie.Need-loop-preserved invariant-loop decreases-loop
+loop-again c = let x = c.before.before.before.before.before.before.before.before.before.args in
+    let l = c.before.before.before.before.before.before.before.loop in
+    row_next x.s.now x.at x.h l.p l.k l.invariant c.before.before.before.before.before.before.closes.ensures (not-true c.before.before.before.before.before.before.closes.result c.before.before.before.before.before.if1.true) c.before.before.before.before.mix.result c.before.before.before.before.mix.ensures c.before.n.given.1 c.before.before.before.past.ensures
 
 returns-2 : tie.Need-returns-2 invariant-loop decreases-loop
 returns-2 c = let x = c.before.before.before.before.args in
@@ -79,14 +62,10 @@ row-key-spec =
     loop-holds
     closes-requires
     mix-requires
-    short-variable-requires
-    add-p
-    loop-less
-    loop-again
     past-requires
     enum-known-n
     enum_told
     returns
-    loop-less-2
-    loop-again-2
+    loop-less
+    loop-again
     returns-2)

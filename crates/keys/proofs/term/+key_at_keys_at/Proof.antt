@@ -1,10 +1,8 @@
 -- `key_at` and `keys_at` of src/term.rt meet their contracts: the nesting that is left falls. Assumes nothing.
-use mathlib.Core.Path.{refl}
 use lib.ListN.{length}
 use borrow.Author.Tests.{not-true, not-false}
-use Rattle.sexp.specs.declared.skip.After.TheVariants as A
 use Rattle.equal.proofs.RestLaws.{past-on}
-use Rattle.keys.proofs.WalkLaws.{KeysLeft, key-never, key-known, key-rest, keys-start, keys-lost, keys-next, keys-end, short-key, short-past}
+use Rattle.keys.proofs.WalkLaws.{KeysLeft, key-never, key-known, key-rest, keys-start, keys-lost, keys-next, keys-end}
 use borrow.Author.Rules.{rules}
 use Prim.Native.Nat.{ℕ, ◌<◌, ◌+◌, ◌-◌, ◌*◌}
 use borrow.Fn.Kinds.{In}
@@ -17,11 +15,9 @@ use Rattle.keys.proofs.term.keys_at.Kinds as keys-at-kinds
 use Rattle.keys.proofs.term.+key_at_keys_at.Lts-keys_at as keys-at-lts
 use Rattle.keys.proofs.term.from.Reads as from-reads
 use Rattle.keys.proofs.term.begins.Reads as begins-reads
-use Rattle.keys.proofs.term.bound_key.Reads as bound-key-reads
 use Rattle.keys.proofs.mix.mix.Reads as mix-reads
 use Rattle.sexp.proofs.past.Reads as past-reads
 use Rattle.sexp.proofs.closes.Reads as closes-reads
-use Rattle.sexp.proofs.short_variable.Reads as short-variable-reads
 use Rattle.keys.proofs.term.+key_at_keys_at.{statement}
 use Rattle.keys.proofs.term.+key_at_keys_at.Tie.{close}
 
@@ -78,64 +74,44 @@ keys-at-Inv-loop s at room x h nest p₀ k₀ p k = KeysLeft s at room x h nest 
 abbrev keys-at-μ-loop : keys-at-lts.decreases-loop
 keys-at-μ-loop s at room x h nest p₀ k₀ p k = length s - p
 
-keys-at-loop-holds : (t : ℕ) → keys-at-lts.Need-loop-init (closes-reads.Asked, closes-reads.Learnt, short-variable-reads.Asked, short-variable-reads.Learnt, bound-key-reads.Asked, bound-key-reads.Learnt, mix-reads.Asked, mix-reads.Learnt, key-at-below t, key-at.Post, past-reads.Asked, past-reads.Learnt) (keys-at-at t) keys-at.Post keys-at-Inv-loop keys-at-μ-loop
+keys-at-loop-holds : (t : ℕ) → keys-at-lts.Need-loop-init (closes-reads.Asked, closes-reads.Learnt, key-at-below t, key-at.Post, mix-reads.Asked, mix-reads.Learnt, past-reads.Asked, past-reads.Learnt) (keys-at-at t) keys-at.Post keys-at-Inv-loop keys-at-μ-loop
 keys-at-loop-holds t c = let x = c.before.before.args in keys-start x.s.now x.at x.room.now x.x x.h x.nest
 
-keys-at-closes-requires : (t : ℕ) → keys-at-lts.Need-closes-requires (closes-reads.Asked, closes-reads.Learnt, short-variable-reads.Asked, short-variable-reads.Learnt, bound-key-reads.Asked, bound-key-reads.Learnt, mix-reads.Asked, mix-reads.Learnt, key-at-below t, key-at.Post, past-reads.Asked, past-reads.Learnt) (keys-at-at t) keys-at.Post keys-at-Inv-loop keys-at-μ-loop
+keys-at-closes-requires : (t : ℕ) → keys-at-lts.Need-closes-requires (closes-reads.Asked, closes-reads.Learnt, key-at-below t, key-at.Post, mix-reads.Asked, mix-reads.Learnt, past-reads.Asked, past-reads.Learnt) (keys-at-at t) keys-at.Post keys-at-Inv-loop keys-at-μ-loop
 keys-at-closes-requires t c κs = search rules
 
-keys-at-short-variable-requires : (t : ℕ) → keys-at-lts.Need-short-variable-requires (closes-reads.Asked, closes-reads.Learnt, short-variable-reads.Asked, short-variable-reads.Learnt, bound-key-reads.Asked, bound-key-reads.Learnt, mix-reads.Asked, mix-reads.Learnt, key-at-below t, key-at.Post, past-reads.Asked, past-reads.Learnt) (keys-at-at t) keys-at.Post keys-at-Inv-loop keys-at-μ-loop
-keys-at-short-variable-requires t c κs = search rules
-
-keys-at-bound-key-requires : (t : ℕ) → keys-at-lts.Need-bound-key-requires (closes-reads.Asked, closes-reads.Learnt, short-variable-reads.Asked, short-variable-reads.Learnt, bound-key-reads.Asked, bound-key-reads.Learnt, mix-reads.Asked, mix-reads.Learnt, key-at-below t, key-at.Post, past-reads.Asked, past-reads.Learnt) (keys-at-at t) keys-at.Post keys-at-Inv-loop keys-at-μ-loop
-keys-at-bound-key-requires t c κs = search rules
-
-keys-at-mix-requires : (t : ℕ) → keys-at-lts.Need-mix-requires (closes-reads.Asked, closes-reads.Learnt, short-variable-reads.Asked, short-variable-reads.Learnt, bound-key-reads.Asked, bound-key-reads.Learnt, mix-reads.Asked, mix-reads.Learnt, key-at-below t, key-at.Post, past-reads.Asked, past-reads.Learnt) (keys-at-at t) keys-at.Post keys-at-Inv-loop keys-at-μ-loop
-keys-at-mix-requires t c κs = search rules
-
-keys-at-add-p : (t : ℕ) → keys-at-lts.Need-overflow-add-p (closes-reads.Asked, closes-reads.Learnt, short-variable-reads.Asked, short-variable-reads.Learnt, bound-key-reads.Asked, bound-key-reads.Learnt, mix-reads.Asked, mix-reads.Learnt, key-at-below t, key-at.Post, past-reads.Asked, past-reads.Learnt) (keys-at-at t) keys-at.Post keys-at-Inv-loop keys-at-μ-loop
-keys-at-add-p t c = let h = c.before.before.before.short-variable.ensures.inside c.before.before.if2.true in search rules
-
-keys-at-loop-less : (t : ℕ) → keys-at-lts.Need-loop-smaller (closes-reads.Asked, closes-reads.Learnt, short-variable-reads.Asked, short-variable-reads.Learnt, bound-key-reads.Asked, bound-key-reads.Learnt, mix-reads.Asked, mix-reads.Learnt, key-at-below t, key-at.Post, past-reads.Asked, past-reads.Learnt) (keys-at-at t) keys-at.Post keys-at-Inv-loop keys-at-μ-loop
-keys-at-loop-less t c = let h = c.before.before.before.short-variable.ensures.inside c.before.before.if2.true in search rules
-
-keys-at-loop-again : (t : ℕ) → keys-at-lts.Need-loop-preserved (closes-reads.Asked, closes-reads.Learnt, short-variable-reads.Asked, short-variable-reads.Learnt, bound-key-reads.Asked, bound-key-reads.Learnt, mix-reads.Asked, mix-reads.Learnt, key-at-below t, key-at.Post, past-reads.Asked, past-reads.Learnt) (keys-at-at t) keys-at.Post keys-at-Inv-loop keys-at-μ-loop
-keys-at-loop-again t c = let x = c.before.before.before.before.before.before.before.before.before.args in
-    let l = c.before.before.before.before.before.before.loop in
-    keys-next x.s.now x.at x.room.now x.x x.h x.nest l.p l.k l.invariant c.before.before.before.before.before.closes.ensures (not-true c.before.before.before.before.before.closes.result c.before.before.before.before.if1.true) (short-key x.s.now l.p c.before.before.before.short-variable.ensures c.before.before.if2.true x.room.now x.x x.nest c.before.bound-key.ensures) {a = A.Next (l.p + 8)} c.mix.result c.mix.ensures refl (short-past x.s.now l.p c.before.before.before.short-variable.ensures c.before.before.if2.true)
-
-keys-at-key-at-requires : (t : ℕ) → keys-at-lts.Need-key-at-requires (closes-reads.Asked, closes-reads.Learnt, short-variable-reads.Asked, short-variable-reads.Learnt, bound-key-reads.Asked, bound-key-reads.Learnt, mix-reads.Asked, mix-reads.Learnt, key-at-below t, key-at.Post, past-reads.Asked, past-reads.Learnt) (keys-at-at t) keys-at.Post keys-at-Inv-loop keys-at-μ-loop
+keys-at-key-at-requires : (t : ℕ) → keys-at-lts.Need-key-at-requires (closes-reads.Asked, closes-reads.Learnt, key-at-below t, key-at.Post, mix-reads.Asked, mix-reads.Learnt, past-reads.Asked, past-reads.Learnt) (keys-at-at t) keys-at.Post keys-at-Inv-loop keys-at-μ-loop
 keys-at-key-at-requires t c κs = search rules
 
-keys-at-mix-requires-2 : (t : ℕ) → keys-at-lts.Need-mix-requires-2 (closes-reads.Asked, closes-reads.Learnt, short-variable-reads.Asked, short-variable-reads.Learnt, bound-key-reads.Asked, bound-key-reads.Learnt, mix-reads.Asked, mix-reads.Learnt, key-at-below t, key-at.Post, past-reads.Asked, past-reads.Learnt) (keys-at-at t) keys-at.Post keys-at-Inv-loop keys-at-μ-loop
-keys-at-mix-requires-2 t c κs = search rules
+keys-at-mix-requires : (t : ℕ) → keys-at-lts.Need-mix-requires (closes-reads.Asked, closes-reads.Learnt, key-at-below t, key-at.Post, mix-reads.Asked, mix-reads.Learnt, past-reads.Asked, past-reads.Learnt) (keys-at-at t) keys-at.Post keys-at-Inv-loop keys-at-μ-loop
+keys-at-mix-requires t c κs = search rules
 
-keys-at-past-requires : (t : ℕ) → keys-at-lts.Need-past-requires (closes-reads.Asked, closes-reads.Learnt, short-variable-reads.Asked, short-variable-reads.Learnt, bound-key-reads.Asked, bound-key-reads.Learnt, mix-reads.Asked, mix-reads.Learnt, key-at-below t, key-at.Post, past-reads.Asked, past-reads.Learnt) (keys-at-at t) keys-at.Post keys-at-Inv-loop keys-at-μ-loop
+keys-at-past-requires : (t : ℕ) → keys-at-lts.Need-past-requires (closes-reads.Asked, closes-reads.Learnt, key-at-below t, key-at.Post, mix-reads.Asked, mix-reads.Learnt, past-reads.Asked, past-reads.Learnt) (keys-at-at t) keys-at.Post keys-at-Inv-loop keys-at-μ-loop
 keys-at-past-requires t c κs = search rules
 
-keys-at-enum-known-n : (t : ℕ) → keys-at-lts.Need-enum-known-n (closes-reads.Asked, closes-reads.Learnt, short-variable-reads.Asked, short-variable-reads.Learnt, bound-key-reads.Asked, bound-key-reads.Learnt, mix-reads.Asked, mix-reads.Learnt, key-at-below t, key-at.Post, past-reads.Asked, past-reads.Learnt) (keys-at-at t) keys-at.Post keys-at-Inv-loop keys-at-μ-loop
+keys-at-enum-known-n : (t : ℕ) → keys-at-lts.Need-enum-known-n (closes-reads.Asked, closes-reads.Learnt, key-at-below t, key-at.Post, mix-reads.Asked, mix-reads.Learnt, past-reads.Asked, past-reads.Learnt) (keys-at-at t) keys-at.Post keys-at-Inv-loop keys-at-μ-loop
 keys-at-enum-known-n t c = search rules
 
-keys-at-enum-told : (t : ℕ) → keys-at-lts.Need-enum-told (closes-reads.Asked, closes-reads.Learnt, short-variable-reads.Asked, short-variable-reads.Learnt, bound-key-reads.Asked, bound-key-reads.Learnt, mix-reads.Asked, mix-reads.Learnt, key-at-below t, key-at.Post, past-reads.Asked, past-reads.Learnt) (keys-at-at t) keys-at.Post keys-at-Inv-loop keys-at-μ-loop
+keys-at-enum-told : (t : ℕ) → keys-at-lts.Need-enum-told (closes-reads.Asked, closes-reads.Learnt, key-at-below t, key-at.Post, mix-reads.Asked, mix-reads.Learnt, past-reads.Asked, past-reads.Learnt) (keys-at-at t) keys-at.Post keys-at-Inv-loop keys-at-μ-loop
 keys-at-enum-told t c = search rules
 
-keys-at-returns : (t : ℕ) → keys-at-lts.Need-returns (closes-reads.Asked, closes-reads.Learnt, short-variable-reads.Asked, short-variable-reads.Learnt, bound-key-reads.Asked, bound-key-reads.Learnt, mix-reads.Asked, mix-reads.Learnt, key-at-below t, key-at.Post, past-reads.Asked, past-reads.Learnt) (keys-at-at t) keys-at.Post keys-at-Inv-loop keys-at-μ-loop
-keys-at-returns t c = let x = c.before.before.before.before.before.before.before.before.before.before.before.before.args in
-    let l = c.before.before.before.before.before.before.before.before.before.loop in
-    keys-lost x.s.now x.at x.room.now x.x x.h x.nest l.p l.k l.invariant c.before.before.before.before.before.before.before.before.closes.ensures (not-true c.before.before.before.before.before.before.before.before.closes.result c.before.before.before.before.before.before.before.if1.true) c.before.before.before.before.key-at.ensures c.enum_told.given.1 c.before.before.past.ensures
+keys-at-returns : (t : ℕ) → keys-at-lts.Need-returns (closes-reads.Asked, closes-reads.Learnt, key-at-below t, key-at.Post, mix-reads.Asked, mix-reads.Learnt, past-reads.Asked, past-reads.Learnt) (keys-at-at t) keys-at.Post keys-at-Inv-loop keys-at-μ-loop
+keys-at-returns t c = let x = c.before.before.before.before.before.before.before.before.before.before.args in
+    let l = c.before.before.before.before.before.before.before.loop in
+    keys-lost x.s.now x.at x.room.now x.x x.h x.nest l.p l.k l.invariant c.before.before.before.before.before.before.closes.ensures (not-true c.before.before.before.before.before.before.closes.result c.before.before.before.before.before.if1.true) c.before.before.before.before.key-at.ensures c.enum_told.given.1 c.before.before.past.ensures
 
-keys-at-loop-less-2 : (t : ℕ) → keys-at-lts.Need-loop-smaller-2 (closes-reads.Asked, closes-reads.Learnt, short-variable-reads.Asked, short-variable-reads.Learnt, bound-key-reads.Asked, bound-key-reads.Learnt, mix-reads.Asked, mix-reads.Learnt, key-at-below t, key-at.Post, past-reads.Asked, past-reads.Learnt) (keys-at-at t) keys-at.Post keys-at-Inv-loop keys-at-μ-loop
-keys-at-loop-less-2 t c = let x = c.before.before.before.before.before.before.before.before.before.before.before.before.before.args in
-    let l = c.before.before.before.before.before.before.before.before.before.before.loop in
+keys-at-loop-less : (t : ℕ) → keys-at-lts.Need-loop-smaller (closes-reads.Asked, closes-reads.Learnt, key-at-below t, key-at.Post, mix-reads.Asked, mix-reads.Learnt, past-reads.Asked, past-reads.Learnt) (keys-at-at t) keys-at.Post keys-at-Inv-loop keys-at-μ-loop
+keys-at-loop-less t c = let x = c.before.before.before.before.before.before.before.before.before.before.before.args in
+    let l = c.before.before.before.before.before.before.before.before.loop in
     let h = past-on x.s.now l.p 64 c.before.n.given.1 c.before.before.before.past.ensures in
     search rules
 
-keys-at-loop-again-2 : (t : ℕ) → keys-at-lts.Need-loop-preserved-2 (closes-reads.Asked, closes-reads.Learnt, short-variable-reads.Asked, short-variable-reads.Learnt, bound-key-reads.Asked, bound-key-reads.Learnt, mix-reads.Asked, mix-reads.Learnt, key-at-below t, key-at.Post, past-reads.Asked, past-reads.Learnt) (keys-at-at t) keys-at.Post keys-at-Inv-loop keys-at-μ-loop
-keys-at-loop-again-2 t c = let x = c.before.before.before.before.before.before.before.before.before.before.before.before.before.args in
-    let l = c.before.before.before.before.before.before.before.before.before.before.loop in
-    keys-next x.s.now x.at x.room.now x.x x.h x.nest l.p l.k l.invariant c.before.before.before.before.before.before.before.before.before.closes.ensures (not-true c.before.before.before.before.before.before.before.before.before.closes.result c.before.before.before.before.before.before.before.before.if1.true) c.before.before.before.before.before.key-at.ensures c.before.before.before.before.mix2.result c.before.before.before.before.mix2.ensures c.before.n.given.1 c.before.before.before.past.ensures
+keys-at-loop-again : (t : ℕ) → keys-at-lts.Need-loop-preserved (closes-reads.Asked, closes-reads.Learnt, key-at-below t, key-at.Post, mix-reads.Asked, mix-reads.Learnt, past-reads.Asked, past-reads.Learnt) (keys-at-at t) keys-at.Post keys-at-Inv-loop keys-at-μ-loop
+keys-at-loop-again t c = let x = c.before.before.before.before.before.before.before.before.before.before.before.args in
+    let l = c.before.before.before.before.before.before.before.before.loop in
+    keys-next x.s.now x.at x.room.now x.x x.h x.nest l.p l.k l.invariant c.before.before.before.before.before.before.before.closes.ensures (not-true c.before.before.before.before.before.before.before.closes.result c.before.before.before.before.before.before.if1.true) c.before.before.before.before.before.key-at.ensures c.before.before.before.before.mix.result c.before.before.before.before.mix.ensures c.before.n.given.1 c.before.before.before.past.ensures
 
-keys-at-returns-2 : (t : ℕ) → keys-at-lts.Need-returns-2 (closes-reads.Asked, closes-reads.Learnt, short-variable-reads.Asked, short-variable-reads.Learnt, bound-key-reads.Asked, bound-key-reads.Learnt, mix-reads.Asked, mix-reads.Learnt, key-at-below t, key-at.Post, past-reads.Asked, past-reads.Learnt) (keys-at-at t) keys-at.Post keys-at-Inv-loop keys-at-μ-loop
+keys-at-returns-2 : (t : ℕ) → keys-at-lts.Need-returns-2 (closes-reads.Asked, closes-reads.Learnt, key-at-below t, key-at.Post, mix-reads.Asked, mix-reads.Learnt, past-reads.Asked, past-reads.Learnt) (keys-at-at t) keys-at.Post keys-at-Inv-loop keys-at-μ-loop
 keys-at-returns-2 t c = let x = c.before.before.before.before.before.args in
     let l = c.before.before.loop in
     keys-end x.s.now x.at x.room.now x.x x.h x.nest l.p l.k l.invariant c.before.closes.ensures (not-false c.before.closes.result c.if1.false)
@@ -153,25 +129,19 @@ pub +key-at-keys-at-spec : {M : Type 1} → statement M
     (key-at-keys-at-requires t)
     (key-at-returns-2 t)
     (key-at-returns-3 t))
-    λ t. keys-at-lts.spec (closes-reads.Asked, closes-reads.Learnt, short-variable-reads.Asked, short-variable-reads.Learnt, bound-key-reads.Asked, bound-key-reads.Learnt, mix-reads.Asked, mix-reads.Learnt, key-at-below t, key-at.Post, past-reads.Asked, past-reads.Learnt)
+    λ t. keys-at-lts.spec (closes-reads.Asked, closes-reads.Learnt, key-at-below t, key-at.Post, mix-reads.Asked, mix-reads.Learnt, past-reads.Asked, past-reads.Learnt)
     (keys-at-at t)
     keys-at.Post
     keys-at-Inv-loop
     keys-at-μ-loop
     (keys-at-loop-holds t)
     (keys-at-closes-requires t)
-    (keys-at-short-variable-requires t)
-    (keys-at-bound-key-requires t)
-    (keys-at-mix-requires t)
-    (keys-at-add-p t)
-    (keys-at-loop-less t)
-    (keys-at-loop-again t)
     (keys-at-key-at-requires t)
-    (keys-at-mix-requires-2 t)
+    (keys-at-mix-requires t)
     (keys-at-past-requires t)
     (keys-at-enum-known-n t)
     (keys-at-enum-told t)
     (keys-at-returns t)
-    (keys-at-loop-less-2 t)
-    (keys-at-loop-again-2 t)
+    (keys-at-loop-less t)
+    (keys-at-loop-again t)
     (keys-at-returns-2 t)

@@ -35,8 +35,8 @@ returns-3 c = one_none
 word-of-requires : tie.Need-word-of-requires
 word-of-requires c κs = search rules
 
-sub-t23 : tie.Need-overflow-sub-t23
-sub-t23 c = search rules
+sub-t17 : tie.Need-overflow-sub-t17
+sub-t17 c = search rules
 
 push-requires : tie.Need-push-requires
 push-requires c κs = search rules
@@ -59,7 +59,7 @@ set-one-spec =
     same_length
     returns-3
     word-of-requires
-    sub-t23
+    sub-t17
     push-requires
     same-length-2
     returns-4)

@@ -19,7 +19,7 @@ same-length-2 c = search rules
 returns : tie.Need-returns
 returns c =
     let x = c.before.before.before.before.before.before.before.before.before.before.before.before.before.args in
-    measured x.height x.rules.now x.goal.now x.terms.now x.room.now c.before.before.before.before.write-goal.new.1.1.1.0 c.before.before.before.before.before.first-place.result c.before.before.before.before.before.first-place.ensures x.scratch.now c.before.before.before.before.write-goal.new.1.1.1.1.0 x.stands c.before.before.before.before.write-goal.result c.before.before.before.before.write-goal.ensures c.before.before.before.before.write-goal.auto.1.1.1.0
+    measured x.height x.rules.now x.goal.now x.terms.now x.room.now c.before.before.before.before.write-goal.new.1.1.1.0 c.before.before.before.before.before.first-place.result c.before.before.before.before.before.first-place.ensures x.scratch.now c.before.before.before.before.write-goal.new.1.1.1.1.0 c.before.before.before.before.write-goal.result c.before.before.before.before.write-goal.ensures c.before.before.before.before.write-goal.auto.1.1.1.0
 
 pub measure-spec : {M : Type 1} → statement M
 measure-spec =

@@ -1,5 +1,4 @@
 -- `write` of src/request.rt: the first strip drawn with a short scratch buffer, and once more where it is longer.
-use mathlib.Core.Bool.{true}
 use Rattle.propose.proofs.AnswerLaws.{drawn-again}
 use borrow.Author.Rules.{rules}
 use Rattle.propose.proofs.request.write.Statement.{statement}
@@ -24,7 +23,7 @@ returns : tie.Need-returns
 returns c =
     let x = c.before.before.before.before.before.before.before.before.before.before.before.before.before.before.before.before.before.before.before.before.args in
     let m = c.before.before.before.before.before.before.before.before.before.before.before.before.measure in
-    drawn-again x.height x.rules.now x.goal.now x.terms.now x.room.now m.new.1.1.1.1.1.0 _ m.new.1.1.1.1.0 x.strip.now true m.result m.ensures c.before.before.before.before.write-long.new.1.1.1.1.0 c.before.before.before.before.write-long.result c.before.before.before.before.write-long.ensures
+    drawn-again x.height x.rules.now x.goal.now x.terms.now x.room.now m.new.1.1.1.1.1.0 _ m.new.1.1.1.1.0 x.strip.now m.result m.ensures c.before.before.before.before.write-long.new.1.1.1.1.0 c.before.before.before.before.write-long.result c.before.before.before.before.write-long.ensures
 
 slice-aggregate-hand-over : tie.Need-slice-aggregate-hand-over
 slice-aggregate-hand-over c = search rules
@@ -42,7 +41,7 @@ returns-2 : tie.Need-returns-2
 returns-2 c =
     let x = c.before.before.before.before.before.before.before.before.before.before.before.before.before.before.before.before.before.before.args in
     let m = c.before.before.before.before.before.before.before.before.before.before.measure in
-    c.before.before.hand-over.ensures x.height x.rules.now x.goal.now x.terms.now x.room.now m.new.1.1.1.1.1.0 _ true m.auto.1.1.1.1.0 m.ensures
+    c.before.before.hand-over.ensures x.height x.rules.now x.goal.now x.terms.now x.room.now m.new.1.1.1.1.1.0 _ m.auto.1.1.1.1.0 m.ensures
 
 pub write_spec : {M : Type 1} → statement M
 write_spec =

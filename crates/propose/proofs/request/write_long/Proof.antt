@@ -1,5 +1,4 @@
 -- `write_long` of src/request.rt: the first strip drawn with as many bytes as a strip may have.
-use mathlib.Core.Bool.{false}
 use Rattle.propose.proofs.AnswerLaws.{longer-than-any}
 use borrow.Author.Rules.{rules}
 use Rattle.propose.proofs.request.write_long.Statement.{statement}
@@ -21,7 +20,7 @@ returns : tie.Need-returns
 returns c =
     let x = c.before.before.before.before.before.before.before.before.before.before.before.before.before.before.args in
     let m = c.before.before.before.before.before.before.measure in
-    longer-than-any x.height x.rules.now x.goal.now x.terms.now x.room.now m.new.1.1.1.1.1.0 _ m.new.1.1.1.1.0 x.strip.now false m.result m.ensures c.too_long.result c.before.if1.true c.too_long.ensures
+    longer-than-any x.height x.rules.now x.goal.now x.terms.now x.room.now m.new.1.1.1.1.1.0 _ m.new.1.1.1.1.0 x.strip.now m.result m.ensures c.too_long.result c.before.if1.true c.too_long.ensures
 
 slice-aggregate-hand-over : tie.Need-slice-aggregate-hand-over
 slice-aggregate-hand-over c = search rules
@@ -39,7 +38,7 @@ returns-2 : tie.Need-returns-2
 returns-2 c =
     let x = c.before.before.before.before.before.before.before.before.before.before.before.before.before.before.before.before.before.before.args in
     let m = c.before.before.before.before.before.before.before.before.before.before.measure in
-    c.before.before.hand-over.ensures x.height x.rules.now x.goal.now x.terms.now x.room.now m.new.1.1.1.1.1.0 _ false m.auto.1.1.1.1.0 m.ensures
+    c.before.before.hand-over.ensures x.height x.rules.now x.goal.now x.terms.now x.room.now m.new.1.1.1.1.1.0 _ m.auto.1.1.1.1.0 m.ensures
 
 pub write-long-spec : {M : Type 1} → statement M
 write-long-spec =

@@ -21,7 +21,6 @@ use Rattle.proving.proofs.PassingLaws as passing
 use Rattle.proving.proofs.FillLaws as filling
 use Rattle.narrowing.proofs.TriedLaws as tried
 use Rattle.proving.proofs.LocatingLaws as locating
-use Rattle.proving.proofs.StandingLaws as standing
 use borrow.Fn.Kinds.{In}
 use borrow.Fn.PlainCycle.{Measures, is, falls, and}
 use Rattle.provable.proofs.provable.ask.Reads as ask
@@ -110,7 +109,7 @@ use Rattle.proving.proofs.unset_all.Reads as unset-all-reads
 use Rattle.proving.proofs.word_of.Reads as word-of-reads
 use Rattle.provable.proofs.provable.is_due.Reads as is-due-reads
 use Rattle.narrowing.proofs.narrow_body.Reads as narrow-body-reads
-use Rattle.narrowing.proofs.next_left.Reads as next-left-reads
+use Rattle.narrowing.proofs.is_left_out.Reads as is-left-out-reads
 use Rattle.room.proofs.suppose.Reads as suppose-reads
 use Rattle.room.proofs.push.Reads as push-reads
 use Rattle.places.proofs.bound.Reads as bound-reads
@@ -143,7 +142,7 @@ abbrev μ-both : Measures 2 both-kinds.ps ℕ
 μ-both κs a = 100000 * a.1.1.1.1.1.0 + 90000
 
 abbrev μ-decide : Measures 2 decide-kinds.ps ℕ
-μ-decide κs a = 100000 * a.1.1.1.1.1.1.1.1.1.0 + 88000
+μ-decide κs a = 100000 * a.1.1.1.1.1.1.1.1.0 + 88000
 
 abbrev μ-each : Measures 2 each-kinds.ps ℕ
 μ-each κs a = 100000 * a.1.1.1.1.1.1.1.0 + 10000 + 4 * a.1.1.1.1.1.1.0 + 4
@@ -152,7 +151,7 @@ abbrev μ-fill : Measures 2 fill-kinds.ps ℕ
 μ-fill κs a = 100000 * a.1.1.1.1.1.1.1.0 + 1000 + 10 * a.1.1.1.1.1.1.0 + 3
 
 abbrev μ-find-clause : Measures 2 find-clause-kinds.ps ℕ
-μ-find-clause κs a = 100000 * a.1.1.1.1.1.1.1.1.0 + 86000
+μ-find-clause κs a = 100000 * a.1.1.1.1.1.1.1.0 + 86000
 
 abbrev μ-fork : Measures 2 fork-kinds.ps ℕ
 μ-fork κs a = 100000 * a.1.1.1.1.1.1.1.0 + 10000 + 4 * a.1.1.1.1.1.1.0 + 5
@@ -395,7 +394,7 @@ ask-same-length-2 t c = c.before.before.prove-goal.auto.1.1.1.0
 
 -- src/provable.rt:471:1
 ask-returns-2 : (t : ℕ) → ask-lts.Need-returns-2 (is-due-reads.Asked, is-due-reads.Learnt, prove-goal-below t, prove-goal.Post) (ask-at t) ask.Post
-ask-returns-2 t c = filling.one-asked c.before.before.before.before.before.before.before.before.before.before.before.args.height c.before.before.before.before.before.is-due.ensures (not-false c.before.before.before.before.before.is-due.result c.before.before.before.before.if1.false) c.before.before.prove-goal.ensures.0
+ask-returns-2 t c = filling.one-asked c.before.before.before.before.before.before.before.before.before.before.before.args.height c.before.before.before.before.before.is-due.ensures (not-false c.before.before.before.before.before.is-due.result c.before.before.before.before.if1.false) c.before.before.prove-goal.ensures
 
 -- src/provable.rt:364:9
 body-returns : (t : ℕ) → body-lts.Need-returns (body-place-reads.Asked, body-place-reads.Learnt, look-below t, look.Post) (body_at t) body.Post
@@ -427,7 +426,7 @@ both-same-length : (t : ℕ) → both-lts.Need-same-length (within-reads.Asked, 
 both-same-length t c = search rules
 
 both-returns : (t : ℕ) → both-lts.Need-returns (within-reads.Asked, within-reads.Learnt, prove-goal-below t, prove-goal.Post, past-part-reads.Asked, past-part-reads.Learnt) (both_at t) both.Post
-both-returns t c = laws.both_first c.before.before.before.before.within.ensures c.before.before.before.prove-goal.ensures.0 (not-true c.before.before.before.prove-goal.result c.if1.true)
+both-returns t c = laws.both_first c.before.before.before.before.within.ensures c.before.before.before.prove-goal.ensures (not-true c.before.before.before.prove-goal.result c.if1.true)
 
 both-past-part-requires : (t : ℕ) → both-lts.Need-past-part-requires (within-reads.Asked, within-reads.Learnt, prove-goal-below t, prove-goal.Post, past-part-reads.Asked, past-part-reads.Learnt) (both_at t) both.Post
 both-past-part-requires t c κs = search rules
@@ -454,7 +453,7 @@ both-same-length-3 : (t : ℕ) → both-lts.Need-same-length-3 (within-reads.Ask
 both-same-length-3 t c = c.before.before.prove-goal2.auto.1.1.1.0 ∙ c.before.before.before.before.before.before.before.before.before.before.before.before.prove-goal.auto.1.1.1.0
 
 both-returns-3 : (t : ℕ) → both-lts.Need-returns-3 (within-reads.Asked, within-reads.Learnt, prove-goal-below t, prove-goal.Post, past-part-reads.Asked, past-part-reads.Learnt) (both_at t) both.Post
-both-returns-3 t c = laws.both-second c.before.before.before.before.before.before.before.before.before.before.before.before.before.within.ensures c.before.before.before.within2.ensures c.before.before.before.before.before.before.before.before.past-part.ensures c.before.before.before.before.before.before.n.given.1 c.before.before.before.before.before.before.before.before.before.before.before.before.prove-goal.ensures.0 (not-false c.before.before.before.before.before.before.before.before.before.before.before.before.prove-goal.result c.before.before.before.before.before.before.before.before.before.if1.false) c.before.before.before.before.before.before.before.before.before.before.before.before.prove-goal.auto.1.1.1.0 c.before.before.prove-goal2.ensures.0
+both-returns-3 t c = laws.both-second c.before.before.before.before.before.before.before.before.before.before.before.before.before.within.ensures c.before.before.before.within2.ensures c.before.before.before.before.before.before.before.before.past-part.ensures c.before.before.before.before.before.before.n.given.1 c.before.before.before.before.before.before.before.before.before.before.before.before.prove-goal.ensures (not-false c.before.before.before.before.before.before.before.before.before.before.before.before.prove-goal.result c.before.before.before.before.before.before.before.before.before.if1.false) c.before.before.before.before.before.before.before.before.before.before.before.before.prove-goal.auto.1.1.1.0 c.before.before.prove-goal2.ensures
 
 -- src/provable.rt:240:9
 decide-find-clause-requires : (t : ℕ) → decide-lts.Need-find-clause-requires (find-clause-below t, find-clause.Post, clauses-reads.Asked, clauses-reads.Learnt, plus-reads.Asked, plus-reads.Learnt, keep-reads.Asked, keep-reads.Learnt, is-fact-reads.Asked, is-fact-reads.Learnt, rule-number-reads.Asked, rule-number-reads.Learnt) (decide-at t) decide.Post
@@ -619,59 +618,63 @@ fill-returns-3 : (t : ℕ) → fill-lts.Need-returns-3 (fits-reads.Asked, fits-r
 fill-returns-3 t c = filling.fill-set c.before.before.before.before.before.before.before.before.before.before.before.before.args.k c.before.before.before.before.before.before.before.if1.false c.before.before.before.before.before.is_open.ensures c.before.before.before.before.if2.false c.before.before.fill.ensures
 
 abbrev find-clause-Inv-loop : find-clause-lts.invariant-loop
-find-clause-Inv-loop rules goal terms room₀ w predicate key first left n k₀ room k =
-    (length room ≡ length room₀) × atoms.FindLeft (files_of rules goal terms) room₀ w predicate key first left room k
+find-clause-Inv-loop rules goal terms room₀ w predicate key left n k₀ room k =
+    (k ≤ n) × ((length room ≡ length room₀) × atoms.FindLeft (files_of rules goal terms) room₀ w predicate key left room k)
 
 abbrev find-clause-μ-loop : find-clause-lts.decreases-loop
-find-clause-μ-loop rules goal terms room₀ w predicate key first left n k₀ room k = n - k
+find-clause-μ-loop rules goal terms room₀ w predicate key left n k₀ room k = n - k
 
 -- src/provable.rt:265:9
-find-clause-clauses-requires : (t : ℕ) → find-clause-lts.Need-clauses-requires (clauses-reads.Asked, clauses-reads.Learnt, use-clause-below t, use-clause.Post, next-clause-reads.Asked, next-clause-reads.Learnt) (find-clause-at t) find-clause.Post find-clause-Inv-loop find-clause-μ-loop
+find-clause-clauses-requires : (t : ℕ) → find-clause-lts.Need-clauses-requires (clauses-reads.Asked, clauses-reads.Learnt, next-clause-reads.Asked, next-clause-reads.Learnt, use-clause-below t, use-clause.Post) (find-clause-at t) find-clause.Post find-clause-Inv-loop find-clause-μ-loop
 find-clause-clauses-requires t c κs = search rules
 
--- src/provable.rt:267:5
-find-clause-loop-holds : (t : ℕ) → find-clause-lts.Need-loop-init (clauses-reads.Asked, clauses-reads.Learnt, use-clause-below t, use-clause.Post, next-clause-reads.Asked, next-clause-reads.Learnt) (find-clause-at t) find-clause.Post find-clause-Inv-loop find-clause-μ-loop
-find-clause-loop-holds t c = (refl, atoms.find-start)
-
--- src/provable.rt:268:12
-find-clause-use-clause-requires : (t : ℕ) → find-clause-lts.Need-use-clause-requires (clauses-reads.Asked, clauses-reads.Learnt, use-clause-below t, use-clause.Post, next-clause-reads.Asked, next-clause-reads.Learnt) (find-clause-at t) find-clause.Post find-clause-Inv-loop find-clause-μ-loop
-find-clause-use-clause-requires t c κs = (omega (arith, c.before.before.before.before.before.before.before.before.before.requires.0), tt)
-
--- src/provable.rt:269:13
-find-clause-same-length : (t : ℕ) → find-clause-lts.Need-same-length (clauses-reads.Asked, clauses-reads.Learnt, use-clause-below t, use-clause.Post, next-clause-reads.Asked, next-clause-reads.Learnt) (find-clause-at t) find-clause.Post find-clause-Inv-loop find-clause-μ-loop
-find-clause-same-length t c = c.before.before.before.use-clause.auto.1.1.1.0 ∙ c.before.before.before.before.before.before.loop.invariant.0
-
--- src/provable.rt:269:13
-find-clause-returns : (t : ℕ) → find-clause-lts.Need-returns (clauses-reads.Asked, clauses-reads.Learnt, use-clause-below t, use-clause.Post, next-clause-reads.Asked, next-clause-reads.Learnt) (find-clause-at t) find-clause.Post find-clause-Inv-loop find-clause-μ-loop
-find-clause-returns t c = let l = c.before.before.before.before.before.before.loop in
-    (atoms.find-hit l.k c.before.before.before.before.before.before.before.clauses.result c.before.before.before.before.before.loop-test.true c.before.before.before.before.before.before.before.clauses.ensures l.invariant.1 l.invariant.0 c.before.before.before.use-clause.ensures.0 c.if1.true, locating.located-hit l.k l.invariant.1 l.invariant.0 c.before.before.before.use-clause.ensures.1 c.if1.true)
-
--- src/provable.rt:271:47
-find-clause-add-next-clause : (t : ℕ) → find-clause-lts.Need-overflow-add-next-clause (clauses-reads.Asked, clauses-reads.Learnt, use-clause-below t, use-clause.Post, next-clause-reads.Asked, next-clause-reads.Learnt) (find-clause-at t) find-clause.Post find-clause-Inv-loop find-clause-μ-loop
-find-clause-add-next-clause t c = search rules
-
--- src/provable.rt:271:9
-find-clause-next-clause-requires : (t : ℕ) → find-clause-lts.Need-next-clause-requires (clauses-reads.Asked, clauses-reads.Learnt, use-clause-below t, use-clause.Post, next-clause-reads.Asked, next-clause-reads.Learnt) (find-clause-at t) find-clause.Post find-clause-Inv-loop find-clause-μ-loop
+-- src/provable.rt:266:9
+find-clause-next-clause-requires : (t : ℕ) → find-clause-lts.Need-next-clause-requires (clauses-reads.Asked, clauses-reads.Learnt, next-clause-reads.Asked, next-clause-reads.Learnt, use-clause-below t, use-clause.Post) (find-clause-at t) find-clause.Post find-clause-Inv-loop find-clause-μ-loop
 find-clause-next-clause-requires t c κs = search rules
 
 -- src/provable.rt:267:5
-find-clause-loop-less : (t : ℕ) → find-clause-lts.Need-loop-smaller (clauses-reads.Asked, clauses-reads.Learnt, use-clause-below t, use-clause.Post, next-clause-reads.Asked, next-clause-reads.Learnt) (find-clause-at t) find-clause.Post find-clause-Inv-loop find-clause-μ-loop
-find-clause-loop-less t c = let z = c.next-clause.ensures.further (omega (arith, c.before.before.before.before.before.before.before.loop-test.true)) in
+find-clause-loop-holds : (t : ℕ) → find-clause-lts.Need-loop-init (clauses-reads.Asked, clauses-reads.Learnt, next-clause-reads.Asked, next-clause-reads.Learnt, use-clause-below t, use-clause.Post) (find-clause-at t) find-clause.Post find-clause-Inv-loop find-clause-μ-loop
+find-clause-loop-holds t c = (c.next-clause.ensures.few, (refl, atoms.find-start c.next-clause.ensures))
+
+-- src/provable.rt:268:12
+find-clause-use-clause-requires : (t : ℕ) → find-clause-lts.Need-use-clause-requires (clauses-reads.Asked, clauses-reads.Learnt, next-clause-reads.Asked, next-clause-reads.Learnt, use-clause-below t, use-clause.Post) (find-clause-at t) find-clause.Post find-clause-Inv-loop find-clause-μ-loop
+find-clause-use-clause-requires t c κs = (omega (arith, c.before.before.before.before.before.before.before.before.before.before.before.requires.0), tt)
+
+-- src/provable.rt:269:13
+find-clause-same-length : (t : ℕ) → find-clause-lts.Need-same-length (clauses-reads.Asked, clauses-reads.Learnt, next-clause-reads.Asked, next-clause-reads.Learnt, use-clause-below t, use-clause.Post) (find-clause-at t) find-clause.Post find-clause-Inv-loop find-clause-μ-loop
+find-clause-same-length t c = c.before.before.before.use-clause.auto.1.1.1.0 ∙ c.before.before.before.before.before.before.loop.invariant.1.0
+
+-- src/provable.rt:269:13
+find-clause-returns : (t : ℕ) → find-clause-lts.Need-returns (clauses-reads.Asked, clauses-reads.Learnt, next-clause-reads.Asked, next-clause-reads.Learnt, use-clause-below t, use-clause.Post) (find-clause-at t) find-clause.Post find-clause-Inv-loop find-clause-μ-loop
+find-clause-returns t c = let l = c.before.before.before.before.before.before.loop in
+    (atoms.find-hit l.k c.before.before.before.before.before.before.before.before.before.clauses.result c.before.before.before.before.before.loop-test.true c.before.before.before.before.before.before.before.before.before.clauses.ensures l.invariant.1.1 l.invariant.1.0 c.before.before.before.use-clause.ensures.0 c.if1.true, locating.located-hit l.k l.invariant.1.1 l.invariant.1.0 c.before.before.before.use-clause.ensures.1 c.if1.true)
+
+-- src/provable.rt:271:47
+find-clause-add-next-clause : (t : ℕ) → find-clause-lts.Need-overflow-add-next-clause (clauses-reads.Asked, clauses-reads.Learnt, next-clause-reads.Asked, next-clause-reads.Learnt, use-clause-below t, use-clause.Post) (find-clause-at t) find-clause.Post find-clause-Inv-loop find-clause-μ-loop
+find-clause-add-next-clause t c = search rules
+
+-- src/provable.rt:271:9
+find-clause-next-clause-requires-2 : (t : ℕ) → find-clause-lts.Need-next-clause-requires-2 (clauses-reads.Asked, clauses-reads.Learnt, next-clause-reads.Asked, next-clause-reads.Learnt, use-clause-below t, use-clause.Post) (find-clause-at t) find-clause.Post find-clause-Inv-loop find-clause-μ-loop
+find-clause-next-clause-requires-2 t c κs = search rules
+
+-- src/provable.rt:267:5
+find-clause-loop-less : (t : ℕ) → find-clause-lts.Need-loop-smaller (clauses-reads.Asked, clauses-reads.Learnt, next-clause-reads.Asked, next-clause-reads.Learnt, use-clause-below t, use-clause.Post) (find-clause-at t) find-clause.Post find-clause-Inv-loop find-clause-μ-loop
+find-clause-loop-less t c = let z = c.next-clause2.ensures.further (omega (arith, c.before.before.before.before.before.before.before.loop-test.true)) in
     omega (arith, c.before.before.before.before.before.before.before.loop-test.true)
 
 -- src/provable.rt:267:5
-find-clause-loop-again : (t : ℕ) → find-clause-lts.Need-loop-preserved (clauses-reads.Asked, clauses-reads.Learnt, use-clause-below t, use-clause.Post, next-clause-reads.Asked, next-clause-reads.Learnt) (find-clause-at t) find-clause.Post find-clause-Inv-loop find-clause-μ-loop
+find-clause-loop-again : (t : ℕ) → find-clause-lts.Need-loop-preserved (clauses-reads.Asked, clauses-reads.Learnt, next-clause-reads.Asked, next-clause-reads.Learnt, use-clause-below t, use-clause.Post) (find-clause-at t) find-clause.Post find-clause-Inv-loop find-clause-μ-loop
 find-clause-loop-again t c = let l = c.before.before.before.before.before.before.before.before.loop in
-    (c.before.before.before.before.before.use-clause.auto.1.1.1.0 ∙ l.invariant.0, atoms.find-miss l.k l.invariant.1 l.invariant.0 (c.before.before.before.before.before.use-clause.auto.1.1.1.0 ∙ l.invariant.0) c.before.before.before.before.before.use-clause.ensures.0 c.before.before.if1.false c.next-clause.ensures)
+    (c.next-clause2.ensures.few, (c.before.before.before.before.before.use-clause.auto.1.1.1.0 ∙ l.invariant.1.0, atoms.find-miss l.k l.invariant.1.1 l.invariant.1.0 (c.before.before.before.before.before.use-clause.auto.1.1.1.0 ∙ l.invariant.1.0) c.before.before.before.before.before.use-clause.ensures.0 c.before.before.if1.false c.next-clause2.ensures))
 
 -- src/provable.rt:253:1
-find-clause-same-length-2 : (t : ℕ) → find-clause-lts.Need-same-length-2 (clauses-reads.Asked, clauses-reads.Learnt, use-clause-below t, use-clause.Post, next-clause-reads.Asked, next-clause-reads.Learnt) (find-clause-at t) find-clause.Post find-clause-Inv-loop find-clause-μ-loop
-find-clause-same-length-2 t c = c.before.loop.invariant.0
+find-clause-same-length-2 : (t : ℕ) → find-clause-lts.Need-same-length-2 (clauses-reads.Asked, clauses-reads.Learnt, next-clause-reads.Asked, next-clause-reads.Learnt, use-clause-below t, use-clause.Post) (find-clause-at t) find-clause.Post find-clause-Inv-loop find-clause-μ-loop
+find-clause-same-length-2 t c = c.before.loop.invariant.1.0
 
 -- src/provable.rt:253:1
-find-clause-returns-2 : (t : ℕ) → find-clause-lts.Need-returns-2 (clauses-reads.Asked, clauses-reads.Learnt, use-clause-below t, use-clause.Post, next-clause-reads.Asked, next-clause-reads.Learnt) (find-clause-at t) find-clause.Post find-clause-Inv-loop find-clause-μ-loop
+find-clause-returns-2 : (t : ℕ) → find-clause-lts.Need-returns-2 (clauses-reads.Asked, clauses-reads.Learnt, next-clause-reads.Asked, next-clause-reads.Learnt, use-clause-below t, use-clause.Post) (find-clause-at t) find-clause.Post find-clause-Inv-loop find-clause-μ-loop
 find-clause-returns-2 t c = let l = c.before.loop in
-    (atoms.find-done l.k c.before.before.clauses.result c.loop-test.false c.before.before.clauses.ensures l.invariant.1, locating.located-none c.before.before.clauses.result c.before.before.clauses.ensures)
+    (atoms.find-done l.k c.before.before.before.before.clauses.result c.loop-test.false c.before.before.before.before.clauses.ensures l.invariant.1.1, locating.located-none c.before.before.before.before.clauses.result c.before.before.before.before.clauses.ensures)
 
 -- src/provable.rt:583:26
 fork-past-part-requires : (t : ℕ) → fork-lts.Need-past-part-requires (past-part-reads.Asked, past-part-reads.Learnt, further-reads.Asked, further-reads.Learnt, through-below t, through.Post) (fork_at t) fork.Post
@@ -835,7 +838,7 @@ look-and-returns-4 t c = filling.both-second c.before.before.before.before.befor
 
 -- src/provable.rt:172:9
 prove-all-returns : (t : ℕ) → prove-all-lts.Need-returns (push-reads.Asked, push-reads.Learnt, bound-reads.Asked, bound-reads.Learnt, prove-goal-below t, prove-goal.Post) (prove-all-at t) prove-all.Post
-prove-all-returns t c = standing.no-stands-as (laws.all-full c.if1.true)
+prove-all-returns t c = laws.all-full c.if1.true
 
 -- src/provable.rt:174:13
 prove-all-add-p : (t : ℕ) → prove-all-lts.Need-overflow-add-p (push-reads.Asked, push-reads.Learnt, bound-reads.Asked, bound-reads.Learnt, prove-goal-below t, prove-goal.Post) (prove-all-at t) prove-all.Post
@@ -863,7 +866,7 @@ prove-all-same-length t c = search rules
 
 -- src/provable.rt:161:1
 prove-all-returns-2 : (t : ℕ) → prove-all-lts.Need-returns-2 (push-reads.Asked, push-reads.Learnt, bound-reads.Asked, bound-reads.Learnt, prove-goal-below t, prove-goal.Post) (prove-all-at t) prove-all.Post
-prove-all-returns-2 t c = standing.all-stands {p = c.before.before.before.before.before.before.before.before.before.before.before.before.before.before.before.before.args.w.parameters + 1} refl c.before.before.before.bound.ensures c.before.before.before.before.before.before.before.push.ensures c.before.before.prove-goal.auto.1.1.1.0 c.before.before.prove-goal.ensures
+prove-all-returns-2 t c = laws.all-goes {p = c.before.before.before.before.before.before.before.before.before.before.before.before.before.before.before.before.args.w.parameters + 1} refl c.before.before.before.bound.ensures (laws.proving-from c.before.before.before.before.before.before.before.push.ensures c.before.before.prove-goal.ensures)
 
 -- src/provable.rt:213:9
 prove-atom-both-keys-requires : (t : ℕ) → prove-atom-lts.Need-both-keys-requires (both-keys-reads.Asked, both-keys-reads.Learnt, clauses-reads.Asked, clauses-reads.Learnt, next-clause-reads.Asked, next-clause-reads.Learnt, slot-for-reads.Asked, slot-for-reads.Learnt, plus-reads.Asked, plus-reads.Learnt, recall-reads.Asked, recall-reads.Learnt, decide-below t, decide.Post) (prove-atom-at t) prove-atom.Post
@@ -883,7 +886,7 @@ prove-atom-same-length t c = search rules
 
 -- src/provable.rt:216:9
 prove-atom-returns : (t : ℕ) → prove-atom-lts.Need-returns (both-keys-reads.Asked, both-keys-reads.Learnt, clauses-reads.Asked, clauses-reads.Learnt, next-clause-reads.Asked, next-clause-reads.Learnt, slot-for-reads.Asked, slot-for-reads.Learnt, plus-reads.Asked, plus-reads.Learnt, recall-reads.Asked, recall-reads.Learnt, decide-below t, decide.Post) (prove-atom-at t) prove-atom.Post
-prove-atom-returns t c = atoms.atom-barred c.before.before.before.clauses.result c.before.before.before.before.before.both-keys.ensures.0 c.before.before.before.before.before.both-keys.ensures.1 c.before.before.before.clauses.ensures c.before.next-clause.ensures c.if1.true
+prove-atom-returns t c = atoms.atom-barred c.before.before.before.clauses.result c.before.next-clause.result c.before.before.before.before.before.both-keys.ensures.0 c.before.before.before.before.before.both-keys.ensures.1 c.before.before.before.clauses.ensures c.before.next-clause.ensures c.if1.true
 
 -- src/provable.rt:218:29
 prove-atom-cast-slot-for : (t : ℕ) → prove-atom-lts.Need-overflow-cast-slot-for (both-keys-reads.Asked, both-keys-reads.Learnt, clauses-reads.Asked, clauses-reads.Learnt, next-clause-reads.Asked, next-clause-reads.Learnt, slot-for-reads.Asked, slot-for-reads.Learnt, plus-reads.Asked, plus-reads.Learnt, recall-reads.Asked, recall-reads.Learnt, decide-below t, decide.Post) (prove-atom-at t) prove-atom.Post
@@ -939,11 +942,11 @@ prove-atom-same-length-4 t c = c.before.before.decide.auto.1.1.1.0
 
 -- src/provable.rt:202:1
 prove-atom-returns-4 : (t : ℕ) → prove-atom-lts.Need-returns-4 (both-keys-reads.Asked, both-keys-reads.Learnt, clauses-reads.Asked, clauses-reads.Learnt, next-clause-reads.Asked, next-clause-reads.Learnt, slot-for-reads.Asked, slot-for-reads.Learnt, plus-reads.Asked, plus-reads.Learnt, recall-reads.Asked, recall-reads.Learnt, decide-below t, decide.Post) (prove-atom-at t) prove-atom.Post
-prove-atom-returns-4 t c = atoms.atom-decided c.before.before.before.before.before.before.before.before.before.before.before.before.before.before.before.clauses.result c.before.before.before.before.before.before.before.before.before.slot-for.result c.before.before.before.before.before.before.before.before.before.before.before.before.before.before.before.before.before.both-keys.ensures.0 c.before.before.before.before.before.before.before.before.before.before.before.before.before.before.before.before.before.both-keys.ensures.1 c.before.before.before.before.before.before.before.before.before.before.before.before.before.next-clause.ensures c.before.before.before.before.before.before.before.before.before.slot-for.ensures.1 c.before.before.decide.ensures
+prove-atom-returns-4 t c = atoms.atom-decided c.before.before.before.before.before.before.before.before.before.slot-for.result c.before.before.before.before.before.before.before.before.before.before.before.before.before.before.before.before.before.both-keys.ensures.0 c.before.before.before.before.before.before.before.before.before.before.before.before.before.before.before.before.before.both-keys.ensures.1 c.before.before.before.before.before.before.before.before.before.slot-for.ensures.1 c.before.before.decide.ensures
 
 -- src/provable.rt:65:9
 prove-goal-returns : (t : ℕ) → prove-goal-lts.Need-returns (word-there-reads.Asked, word-there-reads.Learnt, prove-atom-below t, prove-atom.Post, both_below t, both.Post, prove-or-below t, prove-or.Post, prove-some-below t, prove-some.Post, prove-all-below t, prove-all.Post, under-below t, under.Post) (prove-goal-at t) prove-goal.Post
-prove-goal-returns t c = standing.no-stands (laws.no-height c.before.before.before.before.before.args.height c.if1.true)
+prove-goal-returns t c = laws.no-height c.before.before.before.before.before.args.height c.if1.true
 
 -- src/provable.rt:67:11
 prove-goal-word-there-requires : (t : ℕ) → prove-goal-lts.Need-word-there-requires (word-there-reads.Asked, word-there-reads.Learnt, prove-atom-below t, prove-atom.Post, both_below t, both.Post, prove-or-below t, prove-or.Post, prove-some-below t, prove-some.Post, prove-all-below t, prove-all.Post, under-below t, under.Post) (prove-goal-at t) prove-goal.Post
@@ -1028,7 +1031,7 @@ prove-goal-under-requires t c κs = search rules
 -- src/provable.rt:54:1
 prove-goal-returns-2 : (t : ℕ) → prove-goal-lts.Need-returns-2 (word-there-reads.Asked, word-there-reads.Learnt, prove-atom-below t, prove-atom.Post, both_below t, both.Post, prove-or-below t, prove-or.Post, prove-some-below t, prove-some.Post, prove-all-below t, prove-all.Post, under-below t, under.Post) (prove-goal-at t) prove-goal.Post
 prove-goal-returns-2 t c = let x = c.before.before.before.before.before.before.before.before.args in
-    standing.goal-stands x.height W.Top c.before.before.word-there.result c.before.before.before.if1.false c.before.before.word-there.ensures c.enum_told.given.1 (standing.top-stands (laws.top-proved (x.height - 1)))
+    laws.by_word x.height W.Top c.before.before.word-there.result c.before.before.before.if1.false c.before.before.word-there.ensures c.enum_told.given.1 (laws.top-proved (x.height - 1))
 
 -- src/provable.rt:54:1
 prove-goal-same-length : (t : ℕ) → prove-goal-lts.Need-same-length (word-there-reads.Asked, word-there-reads.Learnt, prove-atom-below t, prove-atom.Post, both_below t, both.Post, prove-or-below t, prove-or.Post, prove-some-below t, prove-some.Post, prove-all-below t, prove-all.Post, under-below t, under.Post) (prove-goal-at t) prove-goal.Post
@@ -1037,7 +1040,7 @@ prove-goal-same-length t c = search rules
 -- src/provable.rt:54:1
 prove-goal-returns-3 : (t : ℕ) → prove-goal-lts.Need-returns-3 (word-there-reads.Asked, word-there-reads.Learnt, prove-atom-below t, prove-atom.Post, both_below t, both.Post, prove-or-below t, prove-or.Post, prove-some-below t, prove-some.Post, prove-all-below t, prove-all.Post, under-below t, under.Post) (prove-goal-at t) prove-goal.Post
 prove-goal-returns-3 t c = let x = c.before.before.before.before.before.before.before.before.before.before.before.before.args in
-    standing.goal-stands x.height W.Atom c.before.before.before.before.before.before.word-there.result c.before.before.before.before.before.before.before.if1.false c.before.before.before.before.before.before.word-there.ensures c.before.before.before.before.enum-told2.given.1 (standing.atom-stands c.before.before.prove-atom.ensures)
+    laws.by_word x.height W.Atom c.before.before.before.before.before.before.word-there.result c.before.before.before.before.before.before.before.if1.false c.before.before.before.before.before.before.word-there.ensures c.before.before.before.before.enum-told2.given.1 c.before.before.prove-atom.ensures
 
 -- src/provable.rt:54:1
 prove-goal-same-length-2 : (t : ℕ) → prove-goal-lts.Need-same-length-2 (word-there-reads.Asked, word-there-reads.Learnt, prove-atom-below t, prove-atom.Post, both_below t, both.Post, prove-or-below t, prove-or.Post, prove-some-below t, prove-some.Post, prove-all-below t, prove-all.Post, under-below t, under.Post) (prove-goal-at t) prove-goal.Post
@@ -1046,7 +1049,7 @@ prove-goal-same-length-2 t c = search rules
 -- src/provable.rt:54:1
 prove-goal-returns-4 : (t : ℕ) → prove-goal-lts.Need-returns-4 (word-there-reads.Asked, word-there-reads.Learnt, prove-atom-below t, prove-atom.Post, both_below t, both.Post, prove-or-below t, prove-or.Post, prove-some-below t, prove-some.Post, prove-all-below t, prove-all.Post, under-below t, under.Post) (prove-goal-at t) prove-goal.Post
 prove-goal-returns-4 t c = let x = c.before.before.before.before.before.before.before.before.before.before.before.before.args in
-    standing.goal-stands x.height W.And c.before.before.before.before.before.before.word-there.result c.before.before.before.before.before.before.before.if1.false c.before.before.before.before.before.before.word-there.ensures c.before.before.before.before.enum-told3.given.1 (standing.and-stands c.before.before.both.ensures)
+    laws.by_word x.height W.And c.before.before.before.before.before.before.word-there.result c.before.before.before.before.before.before.before.if1.false c.before.before.before.before.before.before.word-there.ensures c.before.before.before.before.enum-told3.given.1 c.before.before.both.ensures
 
 -- src/provable.rt:54:1
 prove-goal-same-length-3 : (t : ℕ) → prove-goal-lts.Need-same-length-3 (word-there-reads.Asked, word-there-reads.Learnt, prove-atom-below t, prove-atom.Post, both_below t, both.Post, prove-or-below t, prove-or.Post, prove-some-below t, prove-some.Post, prove-all-below t, prove-all.Post, under-below t, under.Post) (prove-goal-at t) prove-goal.Post
@@ -1055,7 +1058,7 @@ prove-goal-same-length-3 t c = search rules
 -- src/provable.rt:54:1
 prove-goal-returns-5 : (t : ℕ) → prove-goal-lts.Need-returns-5 (word-there-reads.Asked, word-there-reads.Learnt, prove-atom-below t, prove-atom.Post, both_below t, both.Post, prove-or-below t, prove-or.Post, prove-some-below t, prove-some.Post, prove-all-below t, prove-all.Post, under-below t, under.Post) (prove-goal-at t) prove-goal.Post
 prove-goal-returns-5 t c = let x = c.before.before.before.before.before.before.before.before.before.before.before.before.args in
-    standing.goal-stands x.height W.Or c.before.before.before.before.before.before.word-there.result c.before.before.before.before.before.before.before.if1.false c.before.before.before.before.before.before.word-there.ensures c.before.before.before.before.enum-told4.given.1 (standing.or-stands c.before.before.prove-or.ensures)
+    laws.by_word x.height W.Or c.before.before.before.before.before.before.word-there.result c.before.before.before.before.before.before.before.if1.false c.before.before.before.before.before.before.word-there.ensures c.before.before.before.before.enum-told4.given.1 c.before.before.prove-or.ensures
 
 -- src/provable.rt:54:1
 prove-goal-same-length-4 : (t : ℕ) → prove-goal-lts.Need-same-length-4 (word-there-reads.Asked, word-there-reads.Learnt, prove-atom-below t, prove-atom.Post, both_below t, both.Post, prove-or-below t, prove-or.Post, prove-some-below t, prove-some.Post, prove-all-below t, prove-all.Post, under-below t, under.Post) (prove-goal-at t) prove-goal.Post
@@ -1064,7 +1067,7 @@ prove-goal-same-length-4 t c = search rules
 -- src/provable.rt:54:1
 prove-goal-returns-6 : (t : ℕ) → prove-goal-lts.Need-returns-6 (word-there-reads.Asked, word-there-reads.Learnt, prove-atom-below t, prove-atom.Post, both_below t, both.Post, prove-or-below t, prove-or.Post, prove-some-below t, prove-some.Post, prove-all-below t, prove-all.Post, under-below t, under.Post) (prove-goal-at t) prove-goal.Post
 prove-goal-returns-6 t c = let x = c.before.before.before.before.before.before.before.before.before.before.before.before.args in
-    standing.goal-stands x.height W.Some c.before.before.before.before.before.before.word-there.result c.before.before.before.before.before.before.before.if1.false c.before.before.before.before.before.before.word-there.ensures c.before.before.before.before.enum-told5.given.1 (standing.some-stands c.before.before.prove-some.ensures)
+    laws.by_word x.height W.Some c.before.before.before.before.before.before.word-there.result c.before.before.before.before.before.before.before.if1.false c.before.before.before.before.before.before.word-there.ensures c.before.before.before.before.enum-told5.given.1 c.before.before.prove-some.ensures.0
 
 -- src/provable.rt:54:1
 prove-goal-same-length-5 : (t : ℕ) → prove-goal-lts.Need-same-length-5 (word-there-reads.Asked, word-there-reads.Learnt, prove-atom-below t, prove-atom.Post, both_below t, both.Post, prove-or-below t, prove-or.Post, prove-some-below t, prove-some.Post, prove-all-below t, prove-all.Post, under-below t, under.Post) (prove-goal-at t) prove-goal.Post
@@ -1073,7 +1076,7 @@ prove-goal-same-length-5 t c = search rules
 -- src/provable.rt:54:1
 prove-goal-returns-7 : (t : ℕ) → prove-goal-lts.Need-returns-7 (word-there-reads.Asked, word-there-reads.Learnt, prove-atom-below t, prove-atom.Post, both_below t, both.Post, prove-or-below t, prove-or.Post, prove-some-below t, prove-some.Post, prove-all-below t, prove-all.Post, under-below t, under.Post) (prove-goal-at t) prove-goal.Post
 prove-goal-returns-7 t c = let x = c.before.before.before.before.before.before.before.before.before.before.before.before.args in
-    standing.goal-stands x.height W.All c.before.before.before.before.before.before.word-there.result c.before.before.before.before.before.before.before.if1.false c.before.before.before.before.before.before.word-there.ensures c.before.before.before.before.enum-told6.given.1 c.before.before.prove-all.ensures
+    laws.by_word x.height W.All c.before.before.before.before.before.before.word-there.result c.before.before.before.before.before.before.before.if1.false c.before.before.before.before.before.before.word-there.ensures c.before.before.before.before.enum-told6.given.1 c.before.before.prove-all.ensures
 
 -- src/provable.rt:54:1
 prove-goal-same-length-6 : (t : ℕ) → prove-goal-lts.Need-same-length-6 (word-there-reads.Asked, word-there-reads.Learnt, prove-atom-below t, prove-atom.Post, both_below t, both.Post, prove-or-below t, prove-or.Post, prove-some-below t, prove-some.Post, prove-all-below t, prove-all.Post, under-below t, under.Post) (prove-goal-at t) prove-goal.Post
@@ -1082,14 +1085,14 @@ prove-goal-same-length-6 t c = search rules
 -- src/provable.rt:54:1
 prove-goal-returns-8 : (t : ℕ) → prove-goal-lts.Need-returns-8 (word-there-reads.Asked, word-there-reads.Learnt, prove-atom-below t, prove-atom.Post, both_below t, both.Post, prove-or-below t, prove-or.Post, prove-some-below t, prove-some.Post, prove-all-below t, prove-all.Post, under-below t, under.Post) (prove-goal-at t) prove-goal.Post
 prove-goal-returns-8 t c = let x = c.before.before.before.before.before.before.before.before.before.before.before.before.args in
-    standing.goal-stands x.height W.Imp c.before.before.before.before.before.before.word-there.result c.before.before.before.before.before.before.before.if1.false c.before.before.before.before.before.before.word-there.ensures c.before.before.before.before.enum-told7.given.1 c.before.before.under.ensures
+    laws.by_word x.height W.Imp c.before.before.before.before.before.before.word-there.result c.before.before.before.before.before.before.before.if1.false c.before.before.before.before.before.before.word-there.ensures c.before.before.before.before.enum-told7.given.1 c.before.before.under.ensures
 
 -- src/provable.rt:54:1
 prove-goal-returns-9 : (t : ℕ) → prove-goal-lts.Need-returns-9 (word-there-reads.Asked, word-there-reads.Learnt, prove-atom-below t, prove-atom.Post, both_below t, both.Post, prove-or-below t, prove-or.Post, prove-some-below t, prove-some.Post, prove-all-below t, prove-all.Post, under-below t, under.Post) (prove-goal-at t) prove-goal.Post
 unfolding rows rank
 prove-goal-returns-9 t c =
     let k = c.before.word-there.result in
-    standing.no-stands (laws.by-other c.before.before.before.before.before.before.before.args.height k c.before.word-there.ensures (no_row K.Goal k c.match.keys8 refl))
+    laws.by-other c.before.before.before.before.before.before.before.args.height k c.before.word-there.ensures (no_row K.Goal k c.match.keys8 refl)
 
 -- src/provable.rt:110:26
 prove-or-past-part-requires : (t : ℕ) → prove-or-lts.Need-past-part-requires (past-part-reads.Asked, past-part-reads.Learnt, within-reads.Asked, within-reads.Learnt, prove-goal-below t, prove-goal.Post) (prove-or-at t) prove-or.Post
@@ -1121,7 +1124,7 @@ prove-or-same-length t c = search rules
 
 -- src/provable.rt:114:9
 prove-or-returns-2 : (t : ℕ) → prove-or-lts.Need-returns-2 (past-part-reads.Asked, past-part-reads.Learnt, within-reads.Asked, within-reads.Learnt, prove-goal-below t, prove-goal.Post) (prove-or-at t) prove-or.Post
-prove-or-returns-2 t c = laws.either_first c.before.before.before.before.within.ensures c.before.before.before.prove-goal.ensures.0 c.if1.true
+prove-or-returns-2 t c = laws.either_first c.before.before.before.before.within.ensures c.before.before.before.prove-goal.ensures c.if1.true
 
 -- src/provable.rt:116:42
 prove-or-within-requires-2 : (t : ℕ) → prove-or-lts.Need-within-requires-2 (past-part-reads.Asked, past-part-reads.Learnt, within-reads.Asked, within-reads.Learnt, prove-goal-below t, prove-goal.Post) (prove-or-at t) prove-or.Post
@@ -1137,7 +1140,7 @@ prove-or-same-length-2 t c = search rules
 
 -- src/provable.rt:100:1
 prove-or-returns-3 : (t : ℕ) → prove-or-lts.Need-returns-3 (past-part-reads.Asked, past-part-reads.Learnt, within-reads.Asked, within-reads.Learnt, prove-goal-below t, prove-goal.Post) (prove-or-at t) prove-or.Post
-prove-or-returns-3 t c = laws.either_second c.before.before.before.before.before.before.before.before.before.within.ensures c.before.before.before.within2.ensures c.before.before.before.before.before.before.before.before.before.before.before.before.before.before.past-part.ensures c.before.before.before.before.before.before.before.before.before.before.before.before.n.given.1 c.before.before.before.before.before.before.before.before.prove-goal.ensures.0 c.before.before.before.before.before.if1.false c.before.before.before.before.before.before.before.before.prove-goal.auto.1.1.1.0 c.before.before.prove-goal2.ensures.0
+prove-or-returns-3 t c = laws.either_second c.before.before.before.before.before.before.before.before.before.within.ensures c.before.before.before.within2.ensures c.before.before.before.before.before.before.before.before.before.before.before.before.before.before.past-part.ensures c.before.before.before.before.before.before.before.before.before.before.before.before.n.given.1 c.before.before.before.before.before.before.before.before.prove-goal.ensures c.before.before.before.before.before.if1.false c.before.before.before.before.before.before.before.before.prove-goal.auto.1.1.1.0 c.before.before.prove-goal2.ensures
 
 -- src/provable.rt
 prove-some-deeper-requires : (t : ℕ) → prove-some-lts.Need-deeper-requires (deeper-reads.Asked, deeper-reads.Learnt, chain-of-reads.Asked, chain-of-reads.Learnt, start-below t, start.Post) (prove-some-at t) prove-some.Post
@@ -1347,89 +1350,90 @@ try-all-Inv-loop rules goal terms room₀ w p v left n marks narrowed i₀ room 
 abbrev try-all-μ-loop : try-all-lts.decreases-loop
 try-all-μ-loop rules goal terms room₀ w p v left n marks narrowed i₀ room i = n - i
 
--- src/provable.rt:523:73
-try-all-slice-aggregate-narrow-body : (t : ℕ) → try-all-lts.Need-slice-aggregate-narrow-body (candidates-reads.Asked, candidates-reads.Learnt, narrow-body-reads.Asked, narrow-body-reads.Learnt, next-left-reads.Asked, next-left-reads.Learnt, try-one-below t, try_one.Post, word-of-reads.Asked, word-of-reads.Learnt, push-reads.Asked, push-reads.Learnt) (try-all-at t) try-all.Post try-all-Inv-loop try-all-μ-loop
+-- src/provable.rt:526:67
+try-all-slice-aggregate-narrow-body : (t : ℕ) → try-all-lts.Need-slice-aggregate-narrow-body (candidates-reads.Asked, candidates-reads.Learnt, narrow-body-reads.Asked, narrow-body-reads.Learnt, is-left-out-reads.Asked, is-left-out-reads.Learnt, try-one-below t, try_one.Post, word-of-reads.Asked, word-of-reads.Learnt, push-reads.Asked, push-reads.Learnt) (try-all-at t) try-all.Post try-all-Inv-loop try-all-μ-loop
 try-all-slice-aggregate-narrow-body t c = search rules
 
--- src/provable.rt:523:9
-try-all-narrow-body-requires : (t : ℕ) → try-all-lts.Need-narrow-body-requires (candidates-reads.Asked, candidates-reads.Learnt, narrow-body-reads.Asked, narrow-body-reads.Learnt, next-left-reads.Asked, next-left-reads.Learnt, try-one-below t, try_one.Post, word-of-reads.Asked, word-of-reads.Learnt, push-reads.Asked, push-reads.Learnt) (try-all-at t) try-all.Post try-all-Inv-loop try-all-μ-loop
+-- src/provable.rt:526:9
+try-all-narrow-body-requires : (t : ℕ) → try-all-lts.Need-narrow-body-requires (candidates-reads.Asked, candidates-reads.Learnt, narrow-body-reads.Asked, narrow-body-reads.Learnt, is-left-out-reads.Asked, is-left-out-reads.Learnt, try-one-below t, try_one.Post, word-of-reads.Asked, word-of-reads.Learnt, push-reads.Asked, push-reads.Learnt) (try-all-at t) try-all.Post try-all-Inv-loop try-all-μ-loop
 try-all-narrow-body-requires t c κs = search rules
 
--- src/provable.rt:521:9
-try-all-candidates-requires : (t : ℕ) → try-all-lts.Need-candidates-requires (candidates-reads.Asked, candidates-reads.Learnt, narrow-body-reads.Asked, narrow-body-reads.Learnt, next-left-reads.Asked, next-left-reads.Learnt, try-one-below t, try_one.Post, word-of-reads.Asked, word-of-reads.Learnt, push-reads.Asked, push-reads.Learnt) (try-all-at t) try-all.Post try-all-Inv-loop try-all-μ-loop
+-- src/provable.rt:527:9
+try-all-candidates-requires : (t : ℕ) → try-all-lts.Need-candidates-requires (candidates-reads.Asked, candidates-reads.Learnt, narrow-body-reads.Asked, narrow-body-reads.Learnt, is-left-out-reads.Asked, is-left-out-reads.Learnt, try-one-below t, try_one.Post, word-of-reads.Asked, word-of-reads.Learnt, push-reads.Asked, push-reads.Learnt) (try-all-at t) try-all.Post try-all-Inv-loop try-all-μ-loop
 try-all-candidates-requires t c κs = search rules
 
--- src/provable.rt:524:37
-try-all-slice-aggregate-next-left : (t : ℕ) → try-all-lts.Need-slice-aggregate-next-left (candidates-reads.Asked, candidates-reads.Learnt, narrow-body-reads.Asked, narrow-body-reads.Learnt, next-left-reads.Asked, next-left-reads.Learnt, try-one-below t, try_one.Post, word-of-reads.Asked, word-of-reads.Learnt, push-reads.Asked, push-reads.Learnt) (try-all-at t) try-all.Post try-all-Inv-loop try-all-μ-loop
-try-all-slice-aggregate-next-left t c = search rules
+-- src/provable.rt:529:5
+try-all-loop-holds : (t : ℕ) → try-all-lts.Need-loop-init (candidates-reads.Asked, candidates-reads.Learnt, narrow-body-reads.Asked, narrow-body-reads.Learnt, is-left-out-reads.Asked, is-left-out-reads.Learnt, try-one-below t, try_one.Post, word-of-reads.Asked, word-of-reads.Learnt, push-reads.Asked, push-reads.Learnt) (try-all-at t) try-all.Post try-all-Inv-loop try-all-μ-loop
+try-all-loop-holds t c = (omega arith, (refl, tried.from_start c.before.before.before.before.before.before.before.before.before.before.before.before.args.v c.before.before.before.before.before.before.candidates.result))
 
--- src/provable.rt:524:9
-try-all-next-left-requires : (t : ℕ) → try-all-lts.Need-next-left-requires (candidates-reads.Asked, candidates-reads.Learnt, narrow-body-reads.Asked, narrow-body-reads.Learnt, next-left-reads.Asked, next-left-reads.Learnt, try-one-below t, try_one.Post, word-of-reads.Asked, word-of-reads.Learnt, push-reads.Asked, push-reads.Learnt) (try-all-at t) try-all.Post try-all-Inv-loop try-all-μ-loop
-try-all-next-left-requires t c κs = search rules
+-- src/provable.rt:530:34
+try-all-slice-aggregate-is-left-out : (t : ℕ) → try-all-lts.Need-slice-aggregate-is-left-out (candidates-reads.Asked, candidates-reads.Learnt, narrow-body-reads.Asked, narrow-body-reads.Learnt, is-left-out-reads.Asked, is-left-out-reads.Learnt, try-one-below t, try_one.Post, word-of-reads.Asked, word-of-reads.Learnt, push-reads.Asked, push-reads.Learnt) (try-all-at t) try-all.Post try-all-Inv-loop try-all-μ-loop
+try-all-slice-aggregate-is-left-out t c = search rules
 
--- src/provable.rt:525:5
-try-all-loop-holds : (t : ℕ) → try-all-lts.Need-loop-init (candidates-reads.Asked, candidates-reads.Learnt, narrow-body-reads.Asked, narrow-body-reads.Learnt, next-left-reads.Asked, next-left-reads.Learnt, try-one-below t, try_one.Post, word-of-reads.Asked, word-of-reads.Learnt, push-reads.Asked, push-reads.Learnt) (try-all-at t) try-all.Post try-all-Inv-loop try-all-μ-loop
-try-all-loop-holds t c = (c.next-left.ensures.few (omega arith), (refl, tried.from_next c.before.before.before.before.before.before.before.before.before.before.before.before.before.before.args.v c.before.before.before.before.before.before.before.before.candidates.result 0 (omega arith) (tried.from_start c.before.before.before.before.before.before.before.before.before.before.before.before.before.before.args.v c.before.before.before.before.before.before.before.before.candidates.result) (sym (try-all-slice-aggregate-next-left t c.before)) c.next-left.ensures))
+-- src/provable.rt:530:12
+try-all-is-left-out-requires : (t : ℕ) → try-all-lts.Need-is-left-out-requires (candidates-reads.Asked, candidates-reads.Learnt, narrow-body-reads.Asked, narrow-body-reads.Learnt, is-left-out-reads.Asked, is-left-out-reads.Learnt, try-one-below t, try_one.Post, word-of-reads.Asked, word-of-reads.Learnt, push-reads.Asked, push-reads.Learnt) (try-all-at t) try-all.Post try-all-Inv-loop try-all-μ-loop
+try-all-is-left-out-requires t c κs = search rules
 
--- src/provable.rt:526:12
-try-all-try-one-requires : (t : ℕ) → try-all-lts.Need-try-one-requires (candidates-reads.Asked, candidates-reads.Learnt, narrow-body-reads.Asked, narrow-body-reads.Learnt, next-left-reads.Asked, next-left-reads.Learnt, try-one-below t, try_one.Post, word-of-reads.Asked, word-of-reads.Learnt, push-reads.Asked, push-reads.Learnt) (try-all-at t) try-all.Post try-all-Inv-loop try-all-μ-loop
-try-all-try-one-requires t c κs = (omega (arith, c.before.before.before.before.before.before.before.before.before.before.before.before.before.before.before.before.before.requires.0), tt)
+-- src/provable.rt:531:13
+try-all-add-i : (t : ℕ) → try-all-lts.Need-overflow-add-i (candidates-reads.Asked, candidates-reads.Learnt, narrow-body-reads.Asked, narrow-body-reads.Learnt, is-left-out-reads.Asked, is-left-out-reads.Learnt, try-one-below t, try_one.Post, word-of-reads.Asked, word-of-reads.Learnt, push-reads.Asked, push-reads.Learnt) (try-all-at t) try-all.Post try-all-Inv-loop try-all-μ-loop
+try-all-add-i t c = search rules
 
--- src/provable.rt:527:13
-try-all-same-length : (t : ℕ) → try-all-lts.Need-same-length (candidates-reads.Asked, candidates-reads.Learnt, narrow-body-reads.Asked, narrow-body-reads.Learnt, next-left-reads.Asked, next-left-reads.Learnt, try-one-below t, try_one.Post, word-of-reads.Asked, word-of-reads.Learnt, push-reads.Asked, push-reads.Learnt) (try-all-at t) try-all.Post try-all-Inv-loop try-all-μ-loop
-try-all-same-length t c = c.before.before.before.try_one.auto.1.1.1.0 ∙ (c.before.before.before.before.before.before.loop.invariant.1.0 ∙ c.before.before.before.before.before.before.before.before.before.before.before.before.narrow-body.auto.1.1.1.0)
+-- src/provable.rt:529:5
+try-all-loop-less : (t : ℕ) → try-all-lts.Need-loop-smaller (candidates-reads.Asked, candidates-reads.Learnt, narrow-body-reads.Asked, narrow-body-reads.Learnt, is-left-out-reads.Asked, is-left-out-reads.Learnt, try-one-below t, try_one.Post, word-of-reads.Asked, word-of-reads.Learnt, push-reads.Asked, push-reads.Learnt) (try-all-at t) try-all.Post try-all-Inv-loop try-all-μ-loop
+try-all-loop-less t c = search rules
 
--- src/provable.rt:527:13
-try-all-returns : (t : ℕ) → try-all-lts.Need-returns (candidates-reads.Asked, candidates-reads.Learnt, narrow-body-reads.Asked, narrow-body-reads.Learnt, next-left-reads.Asked, next-left-reads.Learnt, try-one-below t, try_one.Post, word-of-reads.Asked, word-of-reads.Learnt, push-reads.Asked, push-reads.Learnt) (try-all-at t) try-all.Post try-all-Inv-loop try-all-μ-loop
-try-all-returns t c = let l = c.before.before.before.before.before.before.loop in
-    let x = c.before.before.before.before.before.before.before.before.before.before.before.before.before.before.before.before.before.before.before.before.before.args in
-    let n = c.before.before.before.before.before.before.before.before.before.before.before.before.narrow-body in
-    filling.each-hit x.v l.i c.before.before.before.before.before.before.before.before.before.before.before.before.before.before.before.candidates.result c.before.before.before.before.before.loop-test.true c.before.before.before.before.before.before.before.before.before.before.before.before.before.before.before.candidates.ensures (l.invariant.1.1 x.room.now n.ensures n.auto.1.1.1.0 c.before.before.before.before.before.before.before.before.before.before.before.before.before.before.before.candidates.ensures) (l.invariant.1.0 ∙ n.auto.1.1.1.0) c.before.before.before.try_one.ensures c.if1.true
+-- src/provable.rt:529:5
+try-all-loop-again : (t : ℕ) → try-all-lts.Need-loop-preserved (candidates-reads.Asked, candidates-reads.Learnt, narrow-body-reads.Asked, narrow-body-reads.Learnt, is-left-out-reads.Asked, is-left-out-reads.Learnt, try-one-below t, try_one.Post, word-of-reads.Asked, word-of-reads.Learnt, push-reads.Asked, push-reads.Learnt) (try-all-at t) try-all.Post try-all-Inv-loop try-all-μ-loop
+try-all-loop-again t c = let l = c.before.before.before.before.loop in
+    let s = c.before.is-left-out.ensures c.if1.true in
+    (omega arith, (l.invariant.1.0, tried.from-skip c.before.before.before.before.before.before.before.before.before.before.before.before.before.before.before.before.before.args.v c.before.before.before.before.before.before.before.before.before.before.before.candidates.result l.i c.before.before.before.loop-test.true l.invariant.1.1 s.0 (sym (try-all-slice-aggregate-is-left-out t c.before.before)) s.1))
 
--- src/provable.rt:529:33
-try-all-slice-aggregate-next-left-2 : (t : ℕ) → try-all-lts.Need-slice-aggregate-next-left-2 (candidates-reads.Asked, candidates-reads.Learnt, narrow-body-reads.Asked, narrow-body-reads.Learnt, next-left-reads.Asked, next-left-reads.Learnt, try-one-below t, try_one.Post, word-of-reads.Asked, word-of-reads.Learnt, push-reads.Asked, push-reads.Learnt) (try-all-at t) try-all.Post try-all-Inv-loop try-all-μ-loop
-try-all-slice-aggregate-next-left-2 t c = search rules
+-- src/provable.rt:534:12
+try-all-try-one-requires : (t : ℕ) → try-all-lts.Need-try-one-requires (candidates-reads.Asked, candidates-reads.Learnt, narrow-body-reads.Asked, narrow-body-reads.Learnt, is-left-out-reads.Asked, is-left-out-reads.Learnt, try-one-below t, try_one.Post, word-of-reads.Asked, word-of-reads.Learnt, push-reads.Asked, push-reads.Learnt) (try-all-at t) try-all.Post try-all-Inv-loop try-all-μ-loop
+try-all-try-one-requires t c κs = (omega (arith, c.before.before.before.before.before.before.before.before.before.before.before.before.before.before.before.before.before.before.requires.0), tt)
 
--- src/provable.rt:529:41
-try-all-add-next-left : (t : ℕ) → try-all-lts.Need-overflow-add-next-left (candidates-reads.Asked, candidates-reads.Learnt, narrow-body-reads.Asked, narrow-body-reads.Learnt, next-left-reads.Asked, next-left-reads.Learnt, try-one-below t, try_one.Post, word-of-reads.Asked, word-of-reads.Learnt, push-reads.Asked, push-reads.Learnt) (try-all-at t) try-all.Post try-all-Inv-loop try-all-μ-loop
-try-all-add-next-left t c = search rules
+-- src/provable.rt:535:13
+try-all-same-length : (t : ℕ) → try-all-lts.Need-same-length (candidates-reads.Asked, candidates-reads.Learnt, narrow-body-reads.Asked, narrow-body-reads.Learnt, is-left-out-reads.Asked, is-left-out-reads.Learnt, try-one-below t, try_one.Post, word-of-reads.Asked, word-of-reads.Learnt, push-reads.Asked, push-reads.Learnt) (try-all-at t) try-all.Post try-all-Inv-loop try-all-μ-loop
+try-all-same-length t c = c.before.before.before.try_one.auto.1.1.1.0 ∙ (c.before.before.before.before.before.before.before.before.before.loop.invariant.1.0 ∙ c.before.before.before.before.before.before.before.before.before.before.before.before.before.narrow-body.auto.1.1.1.0)
 
--- src/provable.rt:529:9
-try-all-next-left-requires-2 : (t : ℕ) → try-all-lts.Need-next-left-requires-2 (candidates-reads.Asked, candidates-reads.Learnt, narrow-body-reads.Asked, narrow-body-reads.Learnt, next-left-reads.Asked, next-left-reads.Learnt, try-one-below t, try_one.Post, word-of-reads.Asked, word-of-reads.Learnt, push-reads.Asked, push-reads.Learnt) (try-all-at t) try-all.Post try-all-Inv-loop try-all-μ-loop
-try-all-next-left-requires-2 t c κs = search rules
+-- src/provable.rt:535:13
+try-all-returns : (t : ℕ) → try-all-lts.Need-returns (candidates-reads.Asked, candidates-reads.Learnt, narrow-body-reads.Asked, narrow-body-reads.Learnt, is-left-out-reads.Asked, is-left-out-reads.Learnt, try-one-below t, try_one.Post, word-of-reads.Asked, word-of-reads.Learnt, push-reads.Asked, push-reads.Learnt) (try-all-at t) try-all.Post try-all-Inv-loop try-all-μ-loop
+try-all-returns t c = let l = c.before.before.before.before.before.before.before.before.before.loop in
+    let x = c.before.before.before.before.before.before.before.before.before.before.before.before.before.before.before.before.before.before.before.before.before.before.args in
+    let n = c.before.before.before.before.before.before.before.before.before.before.before.before.before.narrow-body in
+    filling.each-hit x.v l.i c.before.before.before.before.before.before.before.before.before.before.before.before.before.before.before.before.candidates.result c.before.before.before.before.before.before.before.before.loop-test.true c.before.before.before.before.before.before.before.before.before.before.before.before.before.before.before.before.candidates.ensures (l.invariant.1.1 x.room.now n.ensures n.auto.1.1.1.0 c.before.before.before.before.before.before.before.before.before.before.before.before.before.before.before.before.candidates.ensures) (l.invariant.1.0 ∙ n.auto.1.1.1.0) c.before.before.before.try_one.ensures c.if2.true
 
--- src/provable.rt:525:5
-try-all-loop-less : (t : ℕ) → try-all-lts.Need-loop-smaller (candidates-reads.Asked, candidates-reads.Learnt, narrow-body-reads.Asked, narrow-body-reads.Learnt, next-left-reads.Asked, next-left-reads.Learnt, try-one-below t, try_one.Post, word-of-reads.Asked, word-of-reads.Learnt, push-reads.Asked, push-reads.Learnt) (try-all-at t) try-all.Post try-all-Inv-loop try-all-μ-loop
-try-all-loop-less t c = let z = c.next-left2.ensures.further in
-    omega (arith, c.before.before.before.before.before.before.before.loop-test.true)
+-- src/provable.rt:537:9
+try-all-add-i-2 : (t : ℕ) → try-all-lts.Need-overflow-add-i-2 (candidates-reads.Asked, candidates-reads.Learnt, narrow-body-reads.Asked, narrow-body-reads.Learnt, is-left-out-reads.Asked, is-left-out-reads.Learnt, try-one-below t, try_one.Post, word-of-reads.Asked, word-of-reads.Learnt, push-reads.Asked, push-reads.Learnt) (try-all-at t) try-all.Post try-all-Inv-loop try-all-μ-loop
+try-all-add-i-2 t c = search rules
 
--- src/provable.rt:525:5
-try-all-loop-again : (t : ℕ) → try-all-lts.Need-loop-preserved (candidates-reads.Asked, candidates-reads.Learnt, narrow-body-reads.Asked, narrow-body-reads.Learnt, next-left-reads.Asked, next-left-reads.Learnt, try-one-below t, try_one.Post, word-of-reads.Asked, word-of-reads.Learnt, push-reads.Asked, push-reads.Learnt) (try-all-at t) try-all.Post try-all-Inv-loop try-all-μ-loop
-try-all-loop-again t c = let l = c.before.before.before.before.before.before.before.before.loop in
-    let v = c.before.before.before.before.before.before.before.before.before.before.before.before.before.before.before.before.before.before.before.before.before.before.before.args.v in
-    let n = c.before.before.before.before.before.before.before.before.before.before.before.before.before.before.before.before.before.candidates.result in
-    let h : l.i < n = c.before.before.before.before.before.before.before.loop-test.true in
-    let past = tried.from-miss v n l.i h l.invariant.1.1 l.invariant.1.0 c.before.before.before.before.before.try_one.ensures c.before.before.if1.false in
-    (c.next-left2.ensures.few (omega arith), (c.before.before.before.before.before.try_one.auto.1.1.1.0 ∙ l.invariant.1.0, tried.from_next v n (l.i + 1) (omega arith) past (sym (try-all-slice-aggregate-next-left-2 t c.before)) c.next-left2.ensures))
+-- src/provable.rt:529:5
+try-all-loop-less-2 : (t : ℕ) → try-all-lts.Need-loop-smaller-2 (candidates-reads.Asked, candidates-reads.Learnt, narrow-body-reads.Asked, narrow-body-reads.Learnt, is-left-out-reads.Asked, is-left-out-reads.Learnt, try-one-below t, try_one.Post, word-of-reads.Asked, word-of-reads.Learnt, push-reads.Asked, push-reads.Learnt) (try-all-at t) try-all.Post try-all-Inv-loop try-all-μ-loop
+try-all-loop-less-2 t c = search rules
 
--- src/provable.rt:531:16
-try-all-word-of-requires : (t : ℕ) → try-all-lts.Need-word-of-requires (candidates-reads.Asked, candidates-reads.Learnt, narrow-body-reads.Asked, narrow-body-reads.Learnt, next-left-reads.Asked, next-left-reads.Learnt, try-one-below t, try_one.Post, word-of-reads.Asked, word-of-reads.Learnt, push-reads.Asked, push-reads.Learnt) (try-all-at t) try-all.Post try-all-Inv-loop try-all-μ-loop
+-- src/provable.rt:529:5
+try-all-loop-again-2 : (t : ℕ) → try-all-lts.Need-loop-preserved-2 (candidates-reads.Asked, candidates-reads.Learnt, narrow-body-reads.Asked, narrow-body-reads.Learnt, is-left-out-reads.Asked, is-left-out-reads.Learnt, try-one-below t, try_one.Post, word-of-reads.Asked, word-of-reads.Learnt, push-reads.Asked, push-reads.Learnt) (try-all-at t) try-all.Post try-all-Inv-loop try-all-μ-loop
+try-all-loop-again-2 t c = let l = c.before.before.before.before.before.before.before.before.before.loop in
+    (omega arith, (c.before.before.before.try_one.auto.1.1.1.0 ∙ l.invariant.1.0, tried.from-miss c.before.before.before.before.before.before.before.before.before.before.before.before.before.before.before.before.before.before.before.before.before.before.args.v c.before.before.before.before.before.before.before.before.before.before.before.before.before.before.before.before.candidates.result l.i c.before.before.before.before.before.before.before.before.loop-test.true l.invariant.1.1 l.invariant.1.0 c.before.before.before.try_one.ensures c.if2.false))
+
+-- src/provable.rt:539:16
+try-all-word-of-requires : (t : ℕ) → try-all-lts.Need-word-of-requires (candidates-reads.Asked, candidates-reads.Learnt, narrow-body-reads.Asked, narrow-body-reads.Learnt, is-left-out-reads.Asked, is-left-out-reads.Learnt, try-one-below t, try_one.Post, word-of-reads.Asked, word-of-reads.Learnt, push-reads.Asked, push-reads.Learnt) (try-all-at t) try-all.Post try-all-Inv-loop try-all-μ-loop
 try-all-word-of-requires t c κs = search rules
 
--- src/provable.rt:531:5
-try-all-push-requires : (t : ℕ) → try-all-lts.Need-push-requires (candidates-reads.Asked, candidates-reads.Learnt, narrow-body-reads.Asked, narrow-body-reads.Learnt, next-left-reads.Asked, next-left-reads.Learnt, try-one-below t, try_one.Post, word-of-reads.Asked, word-of-reads.Learnt, push-reads.Asked, push-reads.Learnt) (try-all-at t) try-all.Post try-all-Inv-loop try-all-μ-loop
+-- src/provable.rt:539:5
+try-all-push-requires : (t : ℕ) → try-all-lts.Need-push-requires (candidates-reads.Asked, candidates-reads.Learnt, narrow-body-reads.Asked, narrow-body-reads.Learnt, is-left-out-reads.Asked, is-left-out-reads.Learnt, try-one-below t, try_one.Post, word-of-reads.Asked, word-of-reads.Learnt, push-reads.Asked, push-reads.Learnt) (try-all-at t) try-all.Post try-all-Inv-loop try-all-μ-loop
 try-all-push-requires t c κs = search rules
 
--- src/provable.rt:509:1
-try-all-same-length-2 : (t : ℕ) → try-all-lts.Need-same-length-2 (candidates-reads.Asked, candidates-reads.Learnt, narrow-body-reads.Asked, narrow-body-reads.Learnt, next-left-reads.Asked, next-left-reads.Learnt, try-one-below t, try_one.Post, word-of-reads.Asked, word-of-reads.Learnt, push-reads.Asked, push-reads.Learnt) (try-all-at t) try-all.Post try-all-Inv-loop try-all-μ-loop
-try-all-same-length-2 t c = c.before.before.push.auto.0 ∙ (c.before.before.before.before.before.before.loop.invariant.1.0 ∙ c.before.before.before.before.before.before.before.before.before.before.before.before.narrow-body.auto.1.1.1.0)
+-- src/provable.rt:513:1
+try-all-same-length-2 : (t : ℕ) → try-all-lts.Need-same-length-2 (candidates-reads.Asked, candidates-reads.Learnt, narrow-body-reads.Asked, narrow-body-reads.Learnt, is-left-out-reads.Asked, is-left-out-reads.Learnt, try-one-below t, try_one.Post, word-of-reads.Asked, word-of-reads.Learnt, push-reads.Asked, push-reads.Learnt) (try-all-at t) try-all.Post try-all-Inv-loop try-all-μ-loop
+try-all-same-length-2 t c = c.before.before.push.auto.0 ∙ (c.before.before.before.before.before.before.loop.invariant.1.0 ∙ c.before.before.before.before.before.before.before.before.before.before.narrow-body.auto.1.1.1.0)
 
--- src/provable.rt:509:1
-try-all-returns-2 : (t : ℕ) → try-all-lts.Need-returns-2 (candidates-reads.Asked, candidates-reads.Learnt, narrow-body-reads.Asked, narrow-body-reads.Learnt, next-left-reads.Asked, next-left-reads.Learnt, try-one-below t, try_one.Post, word-of-reads.Asked, word-of-reads.Learnt, push-reads.Asked, push-reads.Learnt) (try-all-at t) try-all.Post try-all-Inv-loop try-all-μ-loop
+-- src/provable.rt:513:1
+try-all-returns-2 : (t : ℕ) → try-all-lts.Need-returns-2 (candidates-reads.Asked, candidates-reads.Learnt, narrow-body-reads.Asked, narrow-body-reads.Learnt, is-left-out-reads.Asked, is-left-out-reads.Learnt, try-one-below t, try_one.Post, word-of-reads.Asked, word-of-reads.Learnt, push-reads.Asked, push-reads.Learnt) (try-all-at t) try-all.Post try-all-Inv-loop try-all-μ-loop
 try-all-returns-2 t c = let l = c.before.before.before.before.before.before.loop in
-    let x = c.before.before.before.before.before.before.before.before.before.before.before.before.before.before.before.before.before.before.before.before.before.args in
-    let n = c.before.before.before.before.before.before.before.before.before.before.before.before.narrow-body in
-    filling.each-done x.v l.i c.before.before.before.before.before.before.before.before.before.before.before.before.before.before.before.candidates.result c.before.before.before.before.before.loop-test.false c.before.before.before.before.before.before.before.before.before.before.before.before.before.before.before.candidates.ensures (l.invariant.1.1 x.room.now n.ensures n.auto.1.1.1.0 c.before.before.before.before.before.before.before.before.before.before.before.before.before.before.before.candidates.ensures) (l.invariant.1.0 ∙ n.auto.1.1.1.0) c.before.before.before.word_of.ensures c.before.before.push.ensures
+    let x = c.before.before.before.before.before.before.before.before.before.before.before.before.before.before.before.before.before.before.before.args in
+    let n = c.before.before.before.before.before.before.before.before.before.before.narrow-body in
+    filling.each-done x.v l.i c.before.before.before.before.before.before.before.before.before.before.before.before.before.candidates.result c.before.before.before.before.before.loop-test.false c.before.before.before.before.before.before.before.before.before.before.before.before.before.candidates.ensures (l.invariant.1.1 x.room.now n.ensures n.auto.1.1.1.0 c.before.before.before.before.before.before.before.before.before.before.before.before.before.candidates.ensures) (l.invariant.1.0 ∙ n.auto.1.1.1.0) c.before.before.before.word_of.ensures c.before.before.push.ensures
 
 -- src/provable.rt:557:9
 try-one-may-use-requires : (t : ℕ) → try-one-lts.Need-may-use-requires (may-use-reads.Asked, may-use-reads.Learnt, word-of-reads.Asked, word-of-reads.Learnt, push-reads.Asked, push-reads.Learnt, may-fit-reads.Asked, may-fit-reads.Learnt, body_below t, body.Post, fill-below t, fill.Post) (try-one-at t) try_one.Post
@@ -1493,7 +1497,7 @@ try-one-returns-4 t c = let x = c.before.before.before.before.before.before.befo
 
 -- src/provable.rt:191:9
 under-returns : (t : ℕ) → under-lts.Need-returns (past-part-reads.Asked, past-part-reads.Learnt, further-reads.Asked, further-reads.Learnt, suppose-reads.Asked, suppose-reads.Learnt, plus-reads.Asked, plus-reads.Learnt, forget-reads.Asked, forget-reads.Learnt, supposes-reads.Asked, supposes-reads.Learnt, prove-goal-below t, prove-goal.Post) (under_at t) under.Post
-under-returns t c = standing.no-stands-as (laws.under-flat c.if1.true)
+under-returns t c = laws.under-flat c.if1.true
 
 -- src/provable.rt:193:26
 under-past-part-requires : (t : ℕ) → under-lts.Need-past-part-requires (past-part-reads.Asked, past-part-reads.Learnt, further-reads.Asked, further-reads.Learnt, suppose-reads.Asked, suppose-reads.Learnt, plus-reads.Asked, plus-reads.Learnt, forget-reads.Asked, forget-reads.Learnt, supposes-reads.Asked, supposes-reads.Learnt, prove-goal-below t, prove-goal.Post) (under_at t) under.Post
@@ -1509,7 +1513,7 @@ under-enum-told t c = search rules
 
 -- src/provable.rt:194:9
 under-returns-2 : (t : ℕ) → under-lts.Need-returns-2 (past-part-reads.Asked, past-part-reads.Learnt, further-reads.Asked, further-reads.Learnt, suppose-reads.Asked, suppose-reads.Learnt, plus-reads.Asked, plus-reads.Learnt, forget-reads.Asked, forget-reads.Learnt, supposes-reads.Asked, supposes-reads.Learnt, prove-goal-below t, prove-goal.Post) (under_at t) under.Post
-under-returns-2 t c = standing.no-stands-as (laws.under-lost c.before.before.past-part.ensures c.enum_told.given.1)
+under-returns-2 t c = laws.under-lost c.before.before.past-part.ensures c.enum_told.given.1
 
 -- src/provable.rt:196:31
 under-further-requires : (t : ℕ) → under-lts.Need-further-requires (past-part-reads.Asked, past-part-reads.Learnt, further-reads.Asked, further-reads.Learnt, suppose-reads.Asked, suppose-reads.Learnt, plus-reads.Asked, plus-reads.Learnt, forget-reads.Asked, forget-reads.Learnt, supposes-reads.Asked, supposes-reads.Learnt, prove-goal-below t, prove-goal.Post) (under_at t) under.Post
@@ -1541,7 +1545,7 @@ under-same-length t c = c.before.before.prove-goal.auto.1.1.1.0 ∙ (c.before.be
 
 -- src/provable.rt:180:1
 under-returns-3 : (t : ℕ) → under-lts.Need-returns-3 (past-part-reads.Asked, past-part-reads.Learnt, further-reads.Asked, further-reads.Learnt, suppose-reads.Asked, suppose-reads.Learnt, plus-reads.Asked, plus-reads.Learnt, forget-reads.Asked, forget-reads.Learnt, supposes-reads.Asked, supposes-reads.Learnt, prove-goal-below t, prove-goal.Post) (under_at t) under.Post
-under-returns-3 t c = standing.under-stands c.before.before.before.before.before.before.before.before.before.before.before.before.before.before.before.before.before.before.before.if1.false c.before.before.before.before.before.before.before.before.before.before.before.before.before.further.ensures c.before.before.before.before.before.before.before.before.plus.ensures c.before.before.before.supposes.ensures c.before.before.before.before.before.before.before.before.before.before.before.before.before.before.before.before.before.before.past-part.ensures c.before.before.before.before.before.before.before.before.before.before.before.before.before.before.before.before.n.given.1 c.before.before.before.before.before.before.before.before.before.before.before.before.suppose.ensures c.before.before.before.before.before.before.before.forget.ensures.0 c.before.before.before.before.before.before.before.forget.ensures.1 c.before.before.prove-goal.auto.1.1.1.0 c.before.before.prove-goal.ensures
+under-returns-3 t c = laws.under_goes c.before.before.before.before.before.before.before.before.before.before.before.before.before.before.before.before.before.before.before.if1.false c.before.before.before.before.before.before.before.before.before.before.before.before.before.further.ensures c.before.before.before.before.before.before.before.before.plus.ensures c.before.before.before.supposes.ensures c.before.before.before.before.before.before.before.before.before.before.before.before.before.before.before.before.before.before.past-part.ensures c.before.before.before.before.before.before.before.before.before.before.before.before.before.before.before.before.n.given.1 c.before.before.before.before.before.before.before.before.before.before.before.before.suppose.ensures c.before.before.before.before.before.before.before.forget.ensures.0 c.before.before.before.before.before.before.before.forget.ensures.1 c.before.before.prove-goal.ensures
 
 -- src/provable.rt:288:29
 use-clause-open-clause-requires : (t : ℕ) → use-clause-lts.Need-open-clause-requires (open-clause-reads.Asked, open-clause-reads.Learnt, clause-parts-reads.Asked, clause-parts-reads.Learnt, start-below t, start.Post, through-below t, through.Post) (use-clause-at t) use-clause.Post
@@ -1734,22 +1738,23 @@ pub +ask-body-both-decide-each-fill-find-clause-fork-look-look-and-prove-all-pro
     (λ t. find-clause-lts.spec (
       clauses-reads.Asked,
       clauses-reads.Learnt,
-      use-clause-below t,
-      use-clause.Post,
       next-clause-reads.Asked,
       next-clause-reads.Learnt,
+      use-clause-below t,
+      use-clause.Post,
     )
     (find-clause-at t)
     find-clause.Post
     find-clause-Inv-loop
     find-clause-μ-loop
     (find-clause-clauses-requires t)
+    (find-clause-next-clause-requires t)
     (find-clause-loop-holds t)
     (find-clause-use-clause-requires t)
     (find-clause-same-length t)
     (find-clause-returns t)
     (find-clause-add-next-clause t)
-    (find-clause-next-clause-requires t)
+    (find-clause-next-clause-requires-2 t)
     (find-clause-loop-less t)
     (find-clause-loop-again t)
     (find-clause-same-length-2 t)
@@ -2069,8 +2074,8 @@ pub +ask-body-both-decide-each-fill-find-clause-fork-look-look-and-prove-all-pro
       candidates-reads.Learnt,
       narrow-body-reads.Asked,
       narrow-body-reads.Learnt,
-      next-left-reads.Asked,
-      next-left-reads.Learnt,
+      is-left-out-reads.Asked,
+      is-left-out-reads.Learnt,
       try-one-below t,
       try_one.Post,
       word-of-reads.Asked,
@@ -2085,17 +2090,18 @@ pub +ask-body-both-decide-each-fill-find-clause-fork-look-look-and-prove-all-pro
     (try-all-candidates-requires t)
     (try-all-slice-aggregate-narrow-body t)
     (try-all-narrow-body-requires t)
-    (try-all-slice-aggregate-next-left t)
-    (try-all-next-left-requires t)
     (try-all-loop-holds t)
+    (try-all-slice-aggregate-is-left-out t)
+    (try-all-is-left-out-requires t)
+    (try-all-add-i t)
+    (try-all-loop-less t)
+    (try-all-loop-again t)
     (try-all-try-one-requires t)
     (try-all-same-length t)
     (try-all-returns t)
-    (try-all-slice-aggregate-next-left-2 t)
-    (try-all-add-next-left t)
-    (try-all-next-left-requires-2 t)
-    (try-all-loop-less t)
-    (try-all-loop-again t)
+    (try-all-add-i-2 t)
+    (try-all-loop-less-2 t)
+    (try-all-loop-again-2 t)
     (try-all-word-of-requires t)
     (try-all-push-requires t)
     (try-all-same-length-2 t)

@@ -72,8 +72,8 @@ bars-at-plain-requires t c κs = search rules
 bars-at-enum-told : (t : ℕ) → bars-at-lts.Need-enum-told (opens-reads.Asked, opens-reads.Learnt, past-text-reads.Asked, past-text-reads.Learnt, plain-reads.Asked, plain-reads.Learnt, word-of-reads.Asked, word-of-reads.Learnt, sort-of-reads.Asked, sort-of-reads.Learnt, number-at-reads.Asked, number-at-reads.Learnt, term-bars-reads.Asked, term-bars-reads.Learnt, parameter-ok-reads.Asked, parameter-ok-reads.Learnt, bars-in-below t, bars-in.Post) (bars-at-at t) bars-at.Post
 bars-at-enum-told t c = search rules
 
-bars-at-add-t24 : (t : ℕ) → bars-at-lts.Need-overflow-add-t24 (opens-reads.Asked, opens-reads.Learnt, past-text-reads.Asked, past-text-reads.Learnt, plain-reads.Asked, plain-reads.Learnt, word-of-reads.Asked, word-of-reads.Learnt, sort-of-reads.Asked, sort-of-reads.Learnt, number-at-reads.Asked, number-at-reads.Learnt, term-bars-reads.Asked, term-bars-reads.Learnt, parameter-ok-reads.Asked, parameter-ok-reads.Learnt, bars-in-below t, bars-in.Post) (bars-at-at t) bars-at.Post
-bars-at-add-t24 t c = let k = byte_inside c.before.before.before.before.before.before.before.args.s.now c.before.before.before.before.before.before.before.args.at 40 (eqb-true _ _ (sym c.before.before.before.before.before.opens.ensures ∙ not-false _ c.before.before.before.before.if1.false)) (omega arith) in omega arith
+bars-at-add-t18 : (t : ℕ) → bars-at-lts.Need-overflow-add-t18 (opens-reads.Asked, opens-reads.Learnt, past-text-reads.Asked, past-text-reads.Learnt, plain-reads.Asked, plain-reads.Learnt, word-of-reads.Asked, word-of-reads.Learnt, sort-of-reads.Asked, sort-of-reads.Learnt, number-at-reads.Asked, number-at-reads.Learnt, term-bars-reads.Asked, term-bars-reads.Learnt, parameter-ok-reads.Asked, parameter-ok-reads.Learnt, bars-in-below t, bars-in.Post) (bars-at-at t) bars-at.Post
+bars-at-add-t18 t c = let k = byte_inside c.before.before.before.before.before.before.before.args.s.now c.before.before.before.before.before.before.before.args.at 40 (eqb-true _ _ (sym c.before.before.before.before.before.opens.ensures ∙ not-false _ c.before.before.before.before.if1.false)) (omega arith) in omega arith
 
 bars-at-enum-known-from : (t : ℕ) → bars-at-lts.Need-enum-known-from (opens-reads.Asked, opens-reads.Learnt, past-text-reads.Asked, past-text-reads.Learnt, plain-reads.Asked, plain-reads.Learnt, word-of-reads.Asked, word-of-reads.Learnt, sort-of-reads.Asked, sort-of-reads.Learnt, number-at-reads.Asked, number-at-reads.Learnt, term-bars-reads.Asked, term-bars-reads.Learnt, parameter-ok-reads.Asked, parameter-ok-reads.Learnt, bars-in-below t, bars-in.Post) (bars-at-at t) bars-at.Post
 bars-at-enum-known-from t c = search rules
@@ -156,8 +156,8 @@ bars-in-loop-holds t c = λ xs t h l. going_start c.before.args.holds c.before.a
 bars-in-closes-requires : (t : ℕ) → bars-in-lts.Need-closes-requires (closes-reads.Asked, closes-reads.Learnt, bars-at-below t, bars-at.Post) (bars-in-at t) bars-in.Post bars-in-Inv-loop bars-in-μ-loop
 bars-in-closes-requires t c κs = search rules
 
-bars-in-add-t14 : (t : ℕ) → bars-in-lts.Need-overflow-add-t14 (closes-reads.Asked, closes-reads.Learnt, bars-at-below t, bars-at.Post) (bars-in-at t) bars-in.Post bars-in-Inv-loop bars-in-μ-loop
-bars-in-add-t14 t c = search rules
+bars-in-add-t12 : (t : ℕ) → bars-in-lts.Need-overflow-add-t12 (closes-reads.Asked, closes-reads.Learnt, bars-at-below t, bars-at.Post) (bars-in-at t) bars-in.Post bars-in-Inv-loop bars-in-μ-loop
+bars-in-add-t12 t c = search rules
 
 bars-in-returns : (t : ℕ) → bars-in-lts.Need-returns (closes-reads.Asked, closes-reads.Learnt, bars-at-below t, bars-at.Post) (bars-in-at t) bars-in.Post bars-in-Inv-loop bars-in-μ-loop
 bars-in-returns t c = λ xs t h l. going-closed (c.before.before.before.loop.invariant xs t h l) (eqb-true _ _ (sym c.before.closes.ensures ∙ c.if1.true))
@@ -199,7 +199,7 @@ pub +bars-at-bars-in-spec : {M : Type 1} → statement M
     (bars-at-add-plain t)
     (bars-at-plain-requires t)
     (bars-at-enum-told t)
-    (bars-at-add-t24 t)
+    (bars-at-add-t18 t)
     (bars-at-enum-known-from t)
     (bars-at-add-to t)
     (bars-at-word-of-requires t)
@@ -231,7 +231,7 @@ pub +bars-at-bars-in-spec : {M : Type 1} → statement M
     bars-in-μ-loop
     (bars-in-loop-holds t)
     (bars-in-closes-requires t)
-    (bars-in-add-t14 t)
+    (bars-in-add-t12 t)
     (bars-in-returns t)
     (bars-in-bars-at-requires t)
     (bars-in-enum-known-o t)

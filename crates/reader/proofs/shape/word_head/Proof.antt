@@ -21,8 +21,8 @@ plain-requires c κs = search rules
 enum_told : tie.Need-enum-told
 enum_told c = search rules
 
-add-t12 : tie.Need-overflow-add-t12
-add-t12 c = search rules
+add-t10 : tie.Need-overflow-add-t10
+add-t10 c = search rules
 
 enum-known-from : tie.Need-enum-known-from
 enum-known-from c = search rules
@@ -58,7 +58,7 @@ word-head-spec =
     add-plain
     plain-requires
     enum_told
-    add-t12
+    add-t10
     enum-known-from
     word-of-requires
     add-row-head

@@ -37,8 +37,8 @@ word-requires-2 : tie.Need-word-requires-2
 word-requires-2 c κs = search rules
 
 -- src/file.rt:79:17
-cast-t12 : tie.Need-overflow-cast-t12
-cast-t12 c = search rules
+cast-t8 : tie.Need-overflow-cast-t8
+cast-t8 c = search rules
 
 -- src/file.rt:80:30
 add-word-2 : tie.Need-overflow-add-word-2
@@ -49,8 +49,8 @@ word-requires-3 : tie.Need-word-requires-3
 word-requires-3 c κs = search rules
 
 -- src/file.rt:80:19
-cast-t17 : tie.Need-overflow-cast-t17
-cast-t17 c = search rules
+cast-t11 : tie.Need-overflow-cast-t11
+cast-t11 c = search rules
 
 -- src/file.rt:81:31
 add-word-3 : tie.Need-overflow-add-word-3
@@ -61,8 +61,8 @@ word-requires-4 : tie.Need-word-requires-4
 word-requires-4 c κs = search rules
 
 -- src/file.rt:81:20
-cast-t22 : tie.Need-overflow-cast-t22
-cast-t22 c = search rules
+cast-t14 : tie.Need-overflow-cast-t14
+cast-t14 c = search rules
 
 -- src/file.rt:77:9
 returns : tie.Need-returns
@@ -84,12 +84,12 @@ supposed-spec =
     source-of-requires
     add-word
     word-requires-2
-    cast-t12
+    cast-t8
     add-word-2
     word-requires-3
-    cast-t17
+    cast-t11
     add-word-3
     word-requires-4
-    cast-t22
+    cast-t14
     returns
     returns-2)

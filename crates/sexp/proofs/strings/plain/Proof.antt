@@ -18,8 +18,8 @@ enum_told c = search rules
 enum-known-from : tie.Need-enum-known-from
 enum-known-from c = search rules
 
-sub-t11 : tie.Need-overflow-sub-t11
-sub-t11 c = let x = c.before.before.before.before.before.before.args in let r = c.before.from.given in let k = plain-order x.s.now x.at r.0.0 r.0.1.0 c.before.before.before.verbatim.result r.1 c.before.before.before.verbatim.ensures in omega arith
+sub-t9 : tie.Need-overflow-sub-t9
+sub-t9 c = let x = c.before.before.before.before.before.before.args in let r = c.before.from.given in let k = plain-order x.s.now x.at r.0.0 r.0.1.0 c.before.before.before.verbatim.result r.1 c.before.before.before.verbatim.ensures in omega arith
 
 returns-2 : tie.Need-returns-2
 returns-2 c = let x = c.before.before.before.before.before.args in plain-stuck x.s.now x.at c.enum_told.given.0.0 c.before.before.verbatim.result c.enum_told.given.1 c.before.before.verbatim.ensures
@@ -30,4 +30,4 @@ returns-3 c = let x = c.before.before.before.before.before.before.args in let r 
 pub plain-spec : {M : Type 1} → statement M
 plain-spec =
     tie.close
-    (tie.spec returns verbatim-requires enum_told enum-known-from sub-t11 returns-2 returns-3)
+    (tie.spec returns verbatim-requires enum_told enum-known-from sub-t9 returns-2 returns-3)

@@ -55,16 +55,16 @@ sub-if5 : tie.Need-overflow-sub-if5
 sub-if5 c = let t = c.before.before.before.number.ensures.digits.inside in omega arith
 
 -- src/text.rt
+add-t14 : tie.Need-overflow-add-t14
+add-t14 c = let t = c.before.before.before.before.number.ensures.digits.inside in omega arith
+
+-- src/text.rt
+add-t15 : tie.Need-overflow-add-t15
+add-t15 c = let t = c.before.before.before.before.number.ensures.digits.inside in omega arith
+
+-- src/text.rt
 add-t16 : tie.Need-overflow-add-t16
 add-t16 c = let t = c.before.before.before.before.number.ensures.digits.inside in omega arith
-
--- src/text.rt
-add-t17 : tie.Need-overflow-add-t17
-add-t17 c = let t = c.before.before.before.before.number.ensures.digits.inside in omega arith
-
--- src/text.rt
-add-t18 : tie.Need-overflow-add-t18
-add-t18 c = let t = c.before.before.before.before.number.ensures.digits.inside in omega arith
 
 -- src/text.rt
 returns-5 : tie.Need-returns-5
@@ -95,8 +95,8 @@ verbatim-long-spec =
     shared-slice-read-if4
     returns-4
     sub-if5
+    add-t14
+    add-t15
     add-t16
-    add-t17
-    add-t18
     returns-5
     returns-6)

@@ -45,8 +45,8 @@ enum-known-n : tie.Need-enum-known-n
 enum-known-n c = search rules
 
 -- src/table.rt:65:39
-add-t14 : tie.Need-overflow-add-t14
-add-t14 c = let x = c.before.before.before.before.before.before.before.before.before.args in
+add-t12 : tie.Need-overflow-add-t12
+add-t12 c = let x = c.before.before.before.before.before.before.before.before.before.args in
     let h = begins-inside x.s.now x.at c.before.before.before.before.before.before.before.from.ensures c.before.n.given.1 c.before.before.before.past.ensures in
     search rules
 
@@ -72,6 +72,6 @@ begins-spec =
     past-requires
     enum_told
     enum-known-n
-    add-t14
+    add-t12
     returns-2
     returns-3)

@@ -25,8 +25,8 @@ word-requires-2 : tie.Need-word-requires-2
 word-requires-2 c κs = search rules
 
 -- src/slot.rt:44:13
-cast-t9 : tie.Need-overflow-cast-t9
-cast-t9 c = search rules
+cast-t5 : tie.Need-overflow-cast-t5
+cast-t5 c = search rules
 
 -- src/slot.rt:45:15
 plus-requires : tie.Need-plus-requires
@@ -37,8 +37,8 @@ word-requires-3 : tie.Need-word-requires-3
 word-requires-3 c κs = search rules
 
 -- src/slot.rt:46:16
-cast-t14 : tie.Need-overflow-cast-t14
-cast-t14 c = search rules
+cast-t8 : tie.Need-overflow-cast-t8
+cast-t8 c = search rules
 
 -- src/slot.rt:38:1
 returns : tie.Need-returns
@@ -51,8 +51,8 @@ spot-spec =
     word-requires
     source-of-requires
     word-requires-2
-    cast-t9
+    cast-t5
     plus-requires
     word-requires-3
-    cast-t14
+    cast-t8
     returns)
