@@ -1,5 +1,6 @@
 // book [FILE]: reads a rule book in TPTP, FILE or else book.p, leaves its axioms in rules.sx and its conjecture in goal.sx of the present directory, and prints one line
 // (document 02, One). Refused, it leaves both files as they were.
+#![tactic(auto)]
 use libc::STDERR_FILENO;
 use programs::{give_name, load, put_aside, say, say_number, say_numbers};
 use tptp::Converted;

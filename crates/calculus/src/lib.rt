@@ -1,1 +1,2 @@
 // Figure 1 of document 004: this crate is definition and law, and has no code.
+#![tactic(auto)]

@@ -1,5 +1,6 @@
 // Judges every case of the file `cases` in the present folder (second/README.md: a limit of nesting and a file, each a string), then the file `file.sx`, and prints
 // one line for each. A file that is not there is passed over. The stored cases and the lines that are expected come from the second program alone.
+#![tactic(auto)]
 ghost use Rattle.std.specs.Prelude.{◌<◌, ◌≤◌, length};
 ghost use Rattle.io.specs.Counts.{IsPrefixLen};
 
@@ -7,7 +8,7 @@ use libc::STDOUT_FILENO;
 use sexp::{Carrier, Octets};
 
 // A part of the case file.
-#[derive(Drop)]
+#[derive(Clone, Copy)]
 struct Part {
     from: usize,
     to: usize,

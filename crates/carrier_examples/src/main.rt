@@ -1,4 +1,5 @@
 // The carrier's answers to RFC 9804's own examples, document 01's cases 11 and 12, and bad input of every kind; one line for each.
+#![tactic(auto)]
 use libc::STDOUT_FILENO;
 use sexp::Carrier;
 

@@ -9,14 +9,14 @@ use room::{Source, Spot, part, source_number, variable, word, word_after};
 use sexp::{After, Value, closes, is_word, number, past, same_text};
 
 // What a term is; if it is a variable, what it stands for: a parameter, or a term written at a spot.
-#[derive(Drop)]
+#[derive(Clone, Copy)]
 pub(crate) enum Seen {
     Parameter(u32),
     Written(Spot),
 }
 
 // How far two terms are compared: they are the same, they differ, or the terms that follow at two spots decide.
-#[derive(Drop)]
+#[derive(Clone, Copy)]
 pub(crate) enum Begun {
     Same,
     Differ,

@@ -16,7 +16,7 @@ use fof_plan::{Plan, Writes};
 use sexp::is_name_of;
 
 // How far a formula is read: whether it is of the part so far, the place, the dues and the bound variables, and the pen.
-#[derive(Drop)]
+#[derive(Clone, Copy)]
 pub struct Now {
     pub ok: bool,
     pub at: usize,
@@ -26,7 +26,7 @@ pub struct Now {
 }
 
 // What was written, if it could be.
-#[derive(Drop)]
+#[derive(Clone, Copy)]
 pub struct Wrote {
     pub ok: bool,
     pub pen: Pen,

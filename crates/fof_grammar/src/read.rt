@@ -8,7 +8,7 @@ use fof_tokens::{Kind, Lexed, next_token};
 use sexp::same;
 
 // How many tokens there are, unless something in the text is none.
-#[derive(Drop)]
+#[derive(Clone, Copy)]
 pub enum Tokens {
     Count(usize),
     Bad,

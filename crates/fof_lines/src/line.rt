@@ -39,7 +39,7 @@ fn label(text: &[u8], at: usize) -> Taken
     take(text, a.end, 7)
 }
 
-#[derive(Drop)]
+#[derive(Clone, Copy)]
 pub enum Role {
     None,
     Axiom,
@@ -47,7 +47,7 @@ pub enum Role {
 }
 
 // the role
-#[derive(Drop)]
+#[derive(Clone, Copy)]
 pub struct Opened {
     pub role: Role,
     pub at: usize,

@@ -7,7 +7,7 @@ use crate::line::{Role, body, introduced};
 use fof_pass::{Pen, Sort, end, head, sign_ahead};
 
 // What became of the lines: whether all are of the part, both pens, and how many rules and goals there are.
-#[derive(Drop)]
+#[derive(Clone, Copy)]
 pub struct Passed {
     pub ok: bool,
     pub at: usize,

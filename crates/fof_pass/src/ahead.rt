@@ -8,7 +8,7 @@ use fof_tokens::{Kind, Lexed, next_token};
 use sexp::same;
 
 // The number of a sign, and where its bytes start and end; 16 where there is none.
-#[derive(Drop)]
+#[derive(Clone, Copy)]
 pub struct Ahead {
     pub code: usize,
     pub start: usize,

@@ -3,7 +3,7 @@ ghost use Rattle.std.specs.Prelude.{◌≡◌, ◌+◌, ◌/◌, ◌%◌, min, g
 ghost use Rattle.fof_pass.specs.Dues.{sort_by, sort_word, choice_word, late_by, due_by, due_of, WordOf, Pushes};
 
 // What a formula has to be.
-#[derive(Drop)]
+#[derive(Clone, Copy)]
 pub enum Sort {
     Goal,
     Clause,
@@ -11,7 +11,7 @@ pub enum Sort {
 }
 
 // What is due; `Nothing` stands where nothing is.
-#[derive(Drop)]
+#[derive(Clone, Copy)]
 pub enum Due {
     Nothing,
     Formula(Sort),

@@ -8,7 +8,7 @@ ghost use Rattle.fof_pass.specs.Taking.{TakesTo};
 
 use crate::ahead::sign_ahead;
 
-#[derive(Drop)]
+#[derive(Clone, Copy)]
 pub enum Taken {
     Nowhere,
     Next(usize),

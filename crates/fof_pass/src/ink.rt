@@ -8,7 +8,7 @@ ghost use Rattle.fof_pass.specs.Ink.{Inks};
 use pen::{put, put_byte, put_decimal, put_number};
 
 // The place behind what is written, the lists that are open there (no more than 64 are counted), and whether lists went deeper.
-#[derive(Drop)]
+#[derive(Clone, Copy)]
 pub struct Pen {
     pub at: usize,
     pub depth: usize,

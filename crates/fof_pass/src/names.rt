@@ -8,7 +8,7 @@ use crate::dues::entry;
 use sexp::same;
 
 // The number of a variable, if it is bound.
-#[derive(Drop)]
+#[derive(Clone, Copy)]
 pub enum Number {
     Free,
     Bound(usize),

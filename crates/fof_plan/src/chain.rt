@@ -4,7 +4,7 @@ ghost use Rattle.fof_plan.specs.Chained.{opening, shutting, connecting, ended, f
 
 use fof_pass::sign_ahead;
 
-#[derive(Drop)]
+#[derive(Clone, Copy)]
 pub enum First {
     Lone,
     Conj,
@@ -12,7 +12,7 @@ pub enum First {
     Implied,
 }
 
-#[derive(Drop)]
+#[derive(Clone, Copy)]
 pub struct Chain {
     pub first: First,
     pub number: usize,
@@ -81,7 +81,7 @@ fn one_more(n: usize) -> usize
 }
 
 // What is known of the signs behind us: the brackets that are open, and the connectives outside brackets.
-#[derive(Drop)]
+#[derive(Clone, Copy)]
 struct Seen {
     depth: usize,
     first: First,

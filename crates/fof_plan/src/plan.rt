@@ -12,7 +12,7 @@ use crate::chain::{Chain, First, chain_ahead};
 use fof_pass::{Due, Sort};
 
 // What is written.
-#[derive(Drop)]
+#[derive(Clone, Copy)]
 pub enum Writes {
     Nothing,
     // so many heads of `and` or of `or`
@@ -33,7 +33,7 @@ pub enum Writes {
     Leaves,
 }
 
-#[derive(Drop)]
+#[derive(Clone, Copy)]
 pub struct Plan {
     pub ok: bool,
     pub takes: bool,

@@ -4,7 +4,7 @@ ghost use Rattle.fof_tokens.specs.Begins.{Begins, SignOf};
 use crate::Kind;
 use crate::bytes::{is_capital, is_nonzero, is_small, is_space};
 
-#[derive(Drop)]
+#[derive(Clone, Copy)]
 pub(crate) enum First {
     Space,
     // %

@@ -7,14 +7,14 @@ ghost use Rattle.fof_tokens.specs.Found.{found_of, ending};
 use crate::Kind;
 
 // Where something ends, if it stands there.
-#[derive(Drop)]
+#[derive(Clone, Copy)]
 pub(crate) enum End {
     At(usize),
     Nowhere,
 }
 
 // The longest piece, and where it ends.
-#[derive(Drop)]
+#[derive(Clone, Copy)]
 pub(crate) enum Found {
     Nothing,
     Gap { end: usize },

@@ -1,6 +1,7 @@
 // The tokens of TPTP's `fof` lines (document 02, request One): what is next in a text, from any offset on.
 // `bytes` tells the classes of bytes, `run` passes bytes of one class, `first` tells by its first byte what a piece may be; `gaps`, `words`, `numbers` and `signs` find its end,
 // `pieces` the longest piece at an offset, and `next` the next token.
+#![tactic(auto)]
 mod bytes;
 mod first;
 mod found;
@@ -15,7 +16,7 @@ mod words;
 pub use next::next_token;
 
 // The kinds of token. The signs are named after what they say in a formula.
-#[derive(Drop)]
+#[derive(Clone, Copy)]
 pub enum Kind {
     // a word that starts with a small letter: fof, axiom, is_shut
     Lower,
@@ -86,7 +87,7 @@ pub enum Kind {
 }
 
 // What comes next in a text.
-#[derive(Drop)]
+#[derive(Clone, Copy)]
 pub enum Lexed {
     // no more tokens
     End,

@@ -4,7 +4,7 @@ ghost use Rattle.fof_tokens.specs.Runs.{passes, span};
 
 use crate::bytes::{is_alnum, is_digit};
 
-#[derive(Drop)]
+#[derive(Clone, Copy)]
 pub(crate) enum Class {
     // of a word, after its first letter
     Alnum,

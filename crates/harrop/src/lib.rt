@@ -1,7 +1,8 @@
 // What a variable stands for (document 01, "When a strip fits"). Everything else of this crate is definition and law.
+#![tactic(auto)]
 
 // A candidate, by its number in the terms file, or an open parameter, by its number.
-#[derive(Drop)]
+#[derive(Clone, Copy)]
 pub enum Binding {
     Candidate(u32),
     Parameter(u32),

@@ -11,7 +11,7 @@ use room::{Spot, variable};
 use sexp::{After, Value, closes, is_word, number, opens, past};
 
 // What is met on the way through an expression.
-#[derive(Drop)]
+#[derive(Clone, Copy)]
 pub enum Met {
     // A variable that is asked for; the rest of the expression is left alone.
     Asked,

@@ -1,4 +1,5 @@
 // The checker: is this strip a proof of this goal from these rules, with these candidates (document 01, "When a strip fits", "What comes back").
+#![tactic(auto)]
 mod request;
 
 ghost use Rattle.judge.specs.Verdict.{Judgement};
@@ -8,7 +9,7 @@ use request::judge_files;
 use start::clear;
 
 // What comes back. The place of a refusal is 0 but for number 7.
-#[derive(Drop)]
+#[derive(Clone, Copy)]
 pub enum Verdict {
     Accepted {
         height: usize,

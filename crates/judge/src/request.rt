@@ -14,7 +14,7 @@ use uses::Outcome;
 use walk::node;
 
 // What is found of the rules and of the terms.
-#[derive(Drop)]
+#[derive(Clone, Copy)]
 pub struct Books {
     pub rules: Judged,
     pub terms: Judged,

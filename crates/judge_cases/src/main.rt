@@ -1,5 +1,6 @@
 // Judges every packet of four files of judge cases (second/README.md: four files, each a string) and prints one line for each. The cases and the lines that are
 // expected come from the second program alone.
+#![tactic(auto)]
 ghost use Rattle.std.specs.Prelude.{◌<◌, ◌≤◌, length};
 
 use judge::Verdict;

@@ -9,7 +9,7 @@ use room::{Spot, part};
 use sexp::{After, closes, past};
 
 // The numbers of an atom: of its predicate and its own.
-#[derive(Drop)]
+#[derive(Clone, Copy)]
 pub struct Both {
     pub predicate: u32,
     pub key: u32,

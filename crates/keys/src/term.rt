@@ -10,7 +10,7 @@ use room::{Source, Spot, part, variable};
 use sexp::{After, Value, closes, is_word, number, past};
 
 // How a term begins: its number is known at once, or terms follow at an offset and are mixed into a number.
-#[derive(Drop)]
+#[derive(Clone, Copy)]
 pub(crate) enum Begun {
     Key(u32),
     Terms(usize, u32),

@@ -8,7 +8,7 @@ use room::{Source, part};
 use sexp::{After, past};
 
 // Where a head stands, if there is one.
-#[derive(Drop)]
+#[derive(Clone, Copy)]
 pub(crate) enum Head {
     Nothing,
     At(usize),

@@ -1,10 +1,11 @@
 // The words, the kinds and what may be due, the refusals and the files, as names, with the paper's numbers (document 01, "The carrier and the words", "What comes back").
 // What they mean is in specs/.
+#![tactic(auto)]
 ghost use Rattle.std.specs.Prelude.{◌≡◌};
 ghost use Rattle.packet.specs.Numbers.{reason_number, file_number};
 
 // The words of the table, and what is none of them.
-#[derive(Drop)]
+#[derive(Clone, Copy)]
 pub enum Word {
     V,
     F,
@@ -25,7 +26,7 @@ pub enum Word {
 }
 
 // What may stand at a place of the table: a string of some sort, a path, or a list that begins with a word.
-#[derive(Drop)]
+#[derive(Clone, Copy)]
 pub enum Kind {
     Name,
     Number,
@@ -41,7 +42,7 @@ pub enum Kind {
 }
 
 // What is due in a list after its word: nothing; one member or two; any number of one kind, perhaps after one other; two and perhaps a third.
-#[derive(Drop)]
+#[derive(Clone, Copy)]
 pub enum Due {
     End,
     One(Kind),
@@ -54,7 +55,7 @@ pub enum Due {
 }
 
 // Why a packet or a search is refused, in the order of document 01's table.
-#[derive(Drop)]
+#[derive(Clone, Copy)]
 pub enum Reason {
     // 1: a file is over 16,384 bytes.
     Long,
@@ -81,7 +82,7 @@ pub enum Reason {
 }
 
 // The file that a refusal is about.
-#[derive(Drop)]
+#[derive(Clone, Copy)]
 pub enum File {
     None,
     Rules,

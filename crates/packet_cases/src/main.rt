@@ -1,5 +1,6 @@
 // Reads every packet of two files of packet cases (second/README.md: how many files are read, and four files, each a string) and prints one line for each. The
 // cases and the lines that are expected come from the second program alone.
+#![tactic(auto)]
 ghost use Rattle.std.specs.Prelude.{◌<◌, ◌≤◌, length};
 
 use programs::{load, say, say_number, say_refused, string};

@@ -5,7 +5,7 @@ ghost use Rattle.programs.specs.StringAt.{StringAt};
 use sexp::{Octets, plain};
 
 // A part of the case file.
-#[derive(Drop)]
+#[derive(Clone, Copy)]
 pub struct Part {
     pub from: usize,
     pub to: usize,

@@ -1,4 +1,5 @@
 // What the programs share: a file is read, or made and named, a word of digits is a number, a line is printed.
+#![tactic(auto)]
 mod cases;
 mod saved;
 mod word;
@@ -12,7 +13,7 @@ pub use saved::{give_name, put_aside};
 pub use word::number;
 
 // Whether a file is there.
-#[derive(Drop)]
+#[derive(Clone, Copy)]
 enum Opened {
     Missing,
     There(i32),

@@ -1,4 +1,5 @@
 // What it is for a search to be right of a goal, a clause and its frame, the laws on it, and the parts of a clause on the bytes (document 01, "Which strip the search writes"; document 02, Three).
+#![tactic(auto)]
 mod hand;
 mod matching;
 mod plain;
@@ -12,14 +13,14 @@ pub use plain::{
 use room::Spot;
 
 // Clause k, if it is at hand.
-#[derive(Drop)]
+#[derive(Clone, Copy)]
 pub enum Chosen {
     Nothing,
     Clause(Spot),
 }
 
 // What is left to be searched of a clause once its head is beside the atom: nothing if the head cannot become it.
-#[derive(Drop)]
+#[derive(Clone, Copy)]
 pub enum Going {
     Never,
     On(Parts),

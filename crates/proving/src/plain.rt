@@ -16,7 +16,7 @@ use sexp::After;
 use unset::may_be;
 
 // Such a clause: how many variables of its own it has, whether it has a body, whether its head is to be compared, and where body and head stand, in the frame of all its variables. The goal inside a chain of `some` is searched like the body of one, with no head to compare.
-#[derive(Drop)]
+#[derive(Clone, Copy)]
 pub struct Parts {
     pub found: bool,
     pub own: usize,

@@ -13,7 +13,7 @@ use packet::Word;
 use sexp::{Octets, Value};
 
 // What a list is by its word.
-#[derive(Drop)]
+#[derive(Clone, Copy)]
 pub(crate) enum Sort {
     Variable,
     Parameter,
@@ -22,7 +22,7 @@ pub(crate) enum Sort {
 }
 
 // The opening of the first barred term, or where the expression ends that has none.
-#[derive(Drop)]
+#[derive(Clone, Copy)]
 pub(crate) enum Bars {
     At(usize),
     Clear(usize),

@@ -9,7 +9,7 @@ use sexp::After;
 const MOST: usize = 257;
 
 // How many members a list has, its word among them, or where the first above the number allowed opens.
-#[derive(Drop)]
+#[derive(Clone, Copy)]
 pub(crate) enum Count {
     Are(usize),
     Over(usize),

@@ -18,14 +18,14 @@ const MOST_BYTES: usize = 16384;
 const MOST_LEVELS: usize = 64;
 
 // What is found of one file: nothing wrong, and how many rules or candidates it has; or the refusal and its place.
-#[derive(Drop)]
+#[derive(Clone, Copy)]
 pub enum Judged {
     Sound(usize),
     Refused(Reason, usize),
 }
 
 // What is found of the files: how many rules and candidates they have; or the refusal, the file and the place.
-#[derive(Drop)]
+#[derive(Clone, Copy)]
 pub enum Read {
     Sound(usize, usize),
     Refused(Reason, File, usize),

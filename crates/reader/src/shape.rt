@@ -15,7 +15,7 @@ use rows::{Follows, Row, due_after, may_end, next_due};
 use sexp::{Octets, Value};
 
 // How a list of a kind begins: not at all, with a step or its end, or with a word.
-#[derive(Drop)]
+#[derive(Clone, Copy)]
 pub(crate) enum Start {
     Never,
     Plainly,
@@ -23,7 +23,7 @@ pub(crate) enum Start {
 }
 
 // What an expression of a kind begins with.
-#[derive(Drop)]
+#[derive(Clone, Copy)]
 pub(crate) enum Head {
     // A string of this kind, which ends here.
     Text(usize),
@@ -34,7 +34,7 @@ pub(crate) enum Head {
 }
 
 // Where an expression, or a list's members with the closing parenthesis, end; or the place of refusal 4.
-#[derive(Drop)]
+#[derive(Clone, Copy)]
 pub(crate) enum Shape {
     Past(usize),
     Wrong(usize),

@@ -1,4 +1,5 @@
 // The work room: its words, bindings in frames, the parts of the files that spots name, and supposed clauses (document 01, "When a strip fits", "Sizes").
+#![tactic(auto)]
 mod file;
 mod frame;
 mod words;
@@ -8,7 +9,7 @@ pub use frame::{copy, push, variable};
 pub use words::{hold, put, word, word_after};
 
 // Which file a formula or a term stands in.
-#[derive(Drop)]
+#[derive(Clone, Copy)]
 pub enum Source {
     Rules,
     Goal,
@@ -16,7 +17,7 @@ pub enum Source {
 }
 
 // Where a formula or a term stands: its file and offset, and the frame of the room that its variables are bound in.
-#[derive(Drop)]
+#[derive(Clone, Copy)]
 pub struct Spot {
     pub source: Source,
     pub at: usize,
@@ -25,7 +26,7 @@ pub struct Spot {
 }
 
 // A place: the spot of its goal, how many clauses are supposed, how many parameters are open, and where the stack ends.
-#[derive(Drop)]
+#[derive(Clone, Copy)]
 pub struct Where {
     pub goal: Spot,
     pub supposed: usize,

@@ -7,14 +7,14 @@ ghost use Rattle.rows.specs.Rows.{row_of, follows_of};
 use packet::{Due, Kind, Word};
 
 // What is due after a word, if the table has it there.
-#[derive(Drop)]
+#[derive(Clone, Copy)]
 pub enum Row {
     Then(Due),
     Nothing,
 }
 
 // The kind of the next member and what is due after it, if one may follow.
-#[derive(Drop)]
+#[derive(Clone, Copy)]
 pub enum Follows {
     Member(Kind, Due),
     Nothing,

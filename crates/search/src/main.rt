@@ -1,5 +1,6 @@
 // search HEIGHT [SIZE]: reads rules.sx, goal.sx and terms.sx in the present directory, searches the first strip within HEIGHT and of at most SIZE bytes, leaves it in strip.sx
 // and prints one line (document 01, "What comes back"). Refused, it leaves strip.sx as it was.
+#![tactic(auto)]
 ghost use Rattle.std.specs.Prelude.{◌≡◌, ◌≤◌, length};
 ghost use Rattle.search.specs.Sized.{Sized};
 

@@ -1,6 +1,7 @@
 // Searches for every case of five files of search cases (second/README.md: rules, goal, terms, height and size, each a string) and prints one line for each; for those of the last
 // file, whose names the search's numbers do not tell apart (docs/LANDINGS.md, Three), in rooms of three lengths. What is found is judged as well; a line says more than is expected if
 // it is not accepted, with the same height and nodes, or if the room is not zero afterwards. The cases and the lines that are expected come from the second program alone.
+#![tactic(auto)]
 ghost use Rattle.std.specs.Prelude.{◌≡◌, ◌<◌, ◌≤◌, length};
 
 use judge::Verdict;

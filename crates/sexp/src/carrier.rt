@@ -4,7 +4,7 @@ ghost use Rattle.sexp.specs.Scan.{after, owed, hints_read, deeper, scan, carrier
 
 use crate::text::{Reading, text};
 
-#[derive(Drop)]
+#[derive(Clone, Copy)]
 pub enum Carrier {
     // One canonical expression, and no list lies deeper than the limit.
     Sound,

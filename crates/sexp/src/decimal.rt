@@ -4,7 +4,7 @@ ghost use Rattle.sexp.specs.Decimal.{is_digit};
 ghost use Rattle.sexp.specs.Number.{largest, Number};
 
 // What a number says, and where it ends. A number too large for any file says the largest.
-#[derive(Drop)]
+#[derive(Clone, Copy)]
 pub(crate) struct Num {
     pub(crate) value: usize,
     pub(crate) next: usize,

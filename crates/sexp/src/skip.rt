@@ -8,7 +8,7 @@ use crate::strings::opens;
 use crate::text::{Reading, text};
 
 // The offset just after what was looked for.
-#[derive(Drop)]
+#[derive(Clone, Copy)]
 pub enum After {
     Next(usize),
     Nothing,

@@ -5,7 +5,7 @@ ghost use Rattle.sexp.specs.Strings.{PlainAt};
 use crate::text::{Reading, verbatim};
 
 // The octets of a plain string: so many from an offset on.
-#[derive(Drop)]
+#[derive(Clone, Copy)]
 pub enum Octets {
     Span(usize, usize),
     Nothing,

@@ -4,7 +4,7 @@ ghost use Rattle.sexp.specs.Text.{VerbatimAt, TextAt};
 
 use crate::decimal::{digit, number};
 
-#[derive(Drop)]
+#[derive(Clone, Copy)]
 pub(crate) enum Reading {
     // Its octets are those from `from` to `to`, and it ends there.
     Spans { from: usize, to: usize },

@@ -9,7 +9,7 @@ use crate::decimal::{digit, number as digits};
 use crate::strings::{Octets, plain};
 
 // What a number says.
-#[derive(Drop)]
+#[derive(Clone, Copy)]
 pub enum Value {
     Is(usize),
     Nothing,

@@ -26,7 +26,7 @@ fn starts(s: &[u8], at: usize, room: &mut [u32], base: usize) -> usize
 }
 
 // How a term begins: with a parameter, or a function whose terms start at an offset.
-#[derive(Drop)]
+#[derive(Clone, Copy)]
 pub(crate) enum Head {
     Parameter(usize),
     Terms(usize),

@@ -1,4 +1,5 @@
 // The table of atoms in what is left of the work room (document 02, Three): failed within a height, or proved within a height and by which clause, believed only after the atoms were compared in full.
+#![tactic(auto)]
 mod asked;
 mod kept;
 mod path;
@@ -11,7 +12,7 @@ pub use path::{numbers, take};
 pub use slot::slot_for;
 
 // What the table says of an atom within a height.
-#[derive(Drop)]
+#[derive(Clone, Copy)]
 pub enum Recalled {
     Unknown,
     No,

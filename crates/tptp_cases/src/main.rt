@@ -1,5 +1,6 @@
 // Reads every book of four files of TPTP cases (second/README.md: a text, and the sizes of the buffers for rules and goal, each a string) and prints one line for each. A line says
 // more than is expected if a buffer is not as it came past what was written. The cases and the lines that are expected come from the second program alone.
+#![tactic(auto)]
 ghost use Rattle.std.specs.Prelude.{◌≡◌, ◌<◌, ◌≤◌, length};
 
 use programs::{load, number, say, say_number, say_numbers, string};

@@ -1,4 +1,5 @@
 // Frames in which some variables are not set yet: whether a head may still be an atom, which candidate the atom forces on a variable, and which variables of the two stand beside each other (document 02, Three).
+#![tactic(auto)]
 mod beside;
 mod head;
 
@@ -6,7 +7,7 @@ pub use beside::same_as;
 pub use head::{candidate_at, compare, forced_by, is_variable, may_be, open_at};
 
 // What an atom forces on a variable: nothing, a candidate, or more than any candidate can give.
-#[derive(Drop)]
+#[derive(Clone, Copy)]
 pub enum Forced {
     Nothing,
     Candidate(u32),
@@ -14,7 +15,7 @@ pub enum Forced {
 }
 
 // A term beside another, or a head beside an atom, where variables of the first are not set: it is another whatever they become, it is the same whatever they become, or that is open.
-#[derive(Drop)]
+#[derive(Clone, Copy)]
 pub enum Likeness {
     Never,
     Open,

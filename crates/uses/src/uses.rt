@@ -15,7 +15,7 @@ use start::may_use;
 
 // What the next step of a path does to a clause: nothing that fits; the path has ended; it leads so many bytes into the clause, or binds the clause's variable to a candidate,
 // by number, and then the next step stands at an offset of the strip.
-#[derive(Drop)]
+#[derive(Clone, Copy)]
 pub(crate) enum Turn {
     Nothing,
     Ended,
@@ -24,21 +24,21 @@ pub(crate) enum Turn {
 }
 
 // Where a path ended: so many bytes before the end of the clause's file, and where the frame ends that the path filled.
-#[derive(Drop)]
+#[derive(Clone, Copy)]
 pub(crate) enum Reached {
     Nothing,
     At(usize, usize),
 }
 
 // Clause k, if it is at hand.
-#[derive(Drop)]
+#[derive(Clone, Copy)]
 pub(crate) enum Chosen {
     Nothing,
     Clause(Spot),
 }
 
 // What a path ended at: an atom, or a goal that implies an atom.
-#[derive(Drop)]
+#[derive(Clone, Copy)]
 pub(crate) enum Head {
     Nothing,
     Fact(Spot),
@@ -46,7 +46,7 @@ pub(crate) enum Head {
 }
 
 // Which clause a node asks for, and where its path stands.
-#[derive(Drop)]
+#[derive(Clone, Copy)]
 pub(crate) enum Asked {
     Nothing,
     Of(usize, usize),

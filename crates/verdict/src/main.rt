@@ -1,4 +1,5 @@
 // Reads rules.sx, goal.sx, terms.sx and strip.sx in the present directory, judges them, and prints one line (document 01, "What comes back").
+#![tactic(auto)]
 use judge::Verdict;
 use programs::{load, say, say_number, say_refused};
 
