@@ -1,0 +1,13 @@
+-- `act` of src/act.rt meets its contract. Assumes nothing.
+use mathlib.Core.Path.{refl}
+use mathlib.Core.Bool.{false}
+use borrow.Author.Tests.{not-true, not-false}
+use Rattle.fof_act.proofs.ActLaws.{act-not, act-done}
+use borrow.Author.Rules.{rules}
+use Rattle.fof_act.proofs.act.act.Goals as goal
+
+pub returns-then-not-p : goal.returns-then-not-p
+returns-then-not-p c = let a = c.args in act-not a.text.now a.stack.now a.names.now a.buf.now a.n a.a a.p (record { ok = false; at = a.n.at; top = a.n.top; bound = a.n.bound; pen = a.n.pen }) (not-true a.p.ok c.if-not-p.true) refl
+
+pub returns : goal.returns
+returns c = let a = c.before.args in act-done a.text.now a.stack.now c.pushed-top.new.0 a.names.now c.bind-bound.new.0 a.buf.now c.write-w.new.1.1.1.0 a.n a.a a.p (not-false a.p.ok c.struct_known-1.false) c.write-w.ensures c.bind-bound.ensures c.pushed-top.ensures c.place-at.ensures

@@ -1,0 +1,7 @@
+-- `pushed` of src/act.rt meets its contract. Assumes nothing.
+use Rattle.fof_act.proofs.ActLaws.{push-four}
+use borrow.Author.Rules.{rules}
+use Rattle.fof_act.proofs.act.pushed.Goals as goal
+
+pub returns : goal.returns
+returns c = push-four c.args.p c.push-top.ensures c.push-top-2.ensures c.push-top-3.ensures c.push.ensures

@@ -1,0 +1,13 @@
+use native.Mathlib.Omega.{arith}
+use Prim.Native.Nat.{◌-◌, ◌≤◌}
+use mathlib.Core.Path.{◌≡◌, refl, ◌∙◌}
+use lib.ListN.{length, length-set}
+use borrow.Author.Rules.{rules}
+use Rattle.fof_grammar.proofs.StackLaws.{Putting, put_first, put-more, put_all}
+use Rattle.fof_grammar.proofs.machine.push.Given as goal
+
+abbrev pub invariant-loop-i : goal.invariant-loop-i
+invariant-loop-i l = (l.i ≤ l.n) × (length l.stack ≡ length l.initial.stack) × Putting l.initial.stack l.top l.k l.stack l.i
+
+abbrev pub decreases-loop-i : goal.decreases-loop-i
+decreases-loop-i l = l.n - l.i

@@ -1,0 +1,11 @@
+-- `terms` of src/plan.rt meets its contract. Assumes nothing.
+use Rattle.fof_plan.proofs.PlanLaws.{terms-close, terms-comma}
+use native.Mathlib.Omega.{arith}
+use borrow.Author.Rules.{rules}
+use Rattle.fof_plan.proofs.plan.terms.Goals as goal
+
+pub returns-then-code-eq7 : goal.returns-then-code-eq7
+returns-then-code-eq7 c = let a = c.args in terms-comma a.code c.if-code-eq7.true c.leading.ensures
+
+pub returns : goal.returns
+returns c = let a = c.args in terms-close a.code c.if-code-eq7.false (c.taken.ensures 0 (omega arith) (λ _. (tt, tt, tt)))

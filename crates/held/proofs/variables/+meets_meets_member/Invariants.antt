@@ -1,0 +1,25 @@
+use mathlib.Core.Path.{sym, ◌∙◌}
+use mathlib.Core.Bool.{true, false}
+use lib.ListN.{length, get_or}
+use borrow.Author.Tests.{eqb-true, not-true, not-false}
+use Rattle.sexp.proofs.SkipLaws.{past-deep}
+use Rattle.room.specs.Spot.{bindings_at}
+use Rattle.mentions.specs.Open.{asked}
+use Rattle.held.proofs.VariableLaws.{held-flat}
+use Rattle.held.proofs.MeetLaws.{Meeting, word-there, meets-ended, meeting-start, meeting-end, meeting-asked, meeting-lost, meeting-next, meeting-less}
+use native.Mathlib.Omega.{arith}
+use borrow.Author.Rules.{rules}
+use Prim.Native.Nat.{ℕ, ◌<◌, ◌+◌, ◌-◌, ◌*◌}
+use Rattle.held.proofs.variables.+meets_meets_member.Given as goal
+
+abbrev pub decreases-meets : goal.decreases-meets
+decreases-meets l = 2 * l.nest
+
+abbrev pub decreases-meets_member : goal.decreases-meets_member
+decreases-meets_member l = 2 * l.nest + 1
+
+abbrev pub invariant-loop-x : goal.invariant-loop-x
+invariant-loop-x l = Meeting l.s l.at l.depth l.nest (asked l.own (bindings_at l.room l.x) l.also l.v) (asked l.own (bindings_at l.room l.x) true l.v) l.q l.d l.with
+
+abbrev pub decreases-loop-x : goal.decreases-loop-x
+decreases-loop-x l = length l.s - l.q

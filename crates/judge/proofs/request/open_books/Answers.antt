@@ -1,0 +1,9 @@
+-- `open_books` of src/request.rt: the tables of sound files are right.
+use Rattle.judge.proofs.HalvesLaws.{opens}
+use borrow.Author.Rules.{rules}
+use Rattle.judge.proofs.request.open_books.Goals as goal
+
+pub returns : goal.returns
+returns c =
+    let x = c.args in
+    opens x.rules.now x.terms.now x.room.now c.fill_tables.new.1.1.0 (record { rules = c.judge_file.result; terms = c.judge_file-2.result }) c.judge_file.ensures c.judge_file-2.ensures c.fill_tables.ensures

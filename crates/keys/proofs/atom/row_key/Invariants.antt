@@ -1,0 +1,13 @@
+use Prim.Native.Nat.{◌-◌}
+use lib.ListN.{length}
+use borrow.Author.Tests.{not-true, not-false}
+use Rattle.equal.proofs.RestLaws.{past-on}
+use Rattle.keys.proofs.AtomLaws.{RowLeft, row-start, row-lost, row_next, row-end}
+use borrow.Author.Rules.{rules}
+use Rattle.keys.proofs.atom.row_key.Given as goal
+
+abbrev pub invariant-loop-k : goal.invariant-loop-k
+invariant-loop-k l = RowLeft l.s l.at l.h l.p l.k
+
+abbrev pub decreases-loop-k : goal.decreases-loop-k
+decreases-loop-k l = length l.s - l.p

@@ -1,0 +1,19 @@
+use lib.ListN.{length}
+use borrow.Author.Tests.{not-true, not-false}
+use Rattle.equal.proofs.RestLaws.{past-on}
+use Rattle.keys.proofs.RuleLaws.{HaveLeft, has-never, is-variable, has-lost, has_rest, have-start, have-found, have-lost, have-next, have-end}
+use borrow.Author.Rules.{rules}
+use Prim.Native.Nat.{ℕ, ◌<◌, ◌+◌, ◌-◌, ◌*◌}
+use Rattle.keys.proofs.rule.+has_variable_have_variable.Given as goal
+
+abbrev pub decreases-has_variable : goal.decreases-has_variable
+decreases-has_variable l = 2 * l.nest
+
+abbrev pub decreases-have_variable : goal.decreases-have_variable
+decreases-have_variable l = 2 * l.nest + 1
+
+abbrev pub invariant-loop-at : goal.invariant-loop-at
+invariant-loop-at l = HaveLeft l.s l.at l.nest l.p
+
+abbrev pub decreases-loop-at : goal.decreases-loop-at
+decreases-loop-at l = length l.s - l.p

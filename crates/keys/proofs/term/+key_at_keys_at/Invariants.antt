@@ -1,0 +1,19 @@
+use lib.ListN.{length}
+use borrow.Author.Tests.{not-true, not-false}
+use Rattle.equal.proofs.RestLaws.{past-on}
+use Rattle.keys.proofs.WalkLaws.{KeysLeft, key-never, key-known, key-rest, keys-start, keys-lost, keys-next, keys-end}
+use borrow.Author.Rules.{rules}
+use Prim.Native.Nat.{ℕ, ◌<◌, ◌+◌, ◌-◌, ◌*◌}
+use Rattle.keys.proofs.term.+key_at_keys_at.Given as goal
+
+abbrev pub decreases-key_at : goal.decreases-key_at
+decreases-key_at l = 2 * l.nest
+
+abbrev pub decreases-keys_at : goal.decreases-keys_at
+decreases-keys_at l = 2 * l.nest + 1
+
+abbrev pub invariant-loop-x : goal.invariant-loop-x
+invariant-loop-x l = KeysLeft l.s l.at l.room l.x l.h l.nest l.p l.k
+
+abbrev pub decreases-loop-x : goal.decreases-loop-x
+decreases-loop-x l = length l.s - l.p

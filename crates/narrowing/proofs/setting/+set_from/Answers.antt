@@ -1,0 +1,22 @@
+-- `set_from` of src/setting.rt meets its contract. Assumes nothing.
+use native.Mathlib.Omega.{arith}
+use borrow.Author.Rules.{rules}
+use mathlib.Core.Path.{◌∙◌}
+use Rattle.narrowing.proofs.SetLaws.{from-none, from_next}
+use Prim.Native.Nat.{ℕ, ◌<◌}
+use Rattle.narrowing.proofs.setting.+set_from.Goals as goal
+
+pub returns-then-asked-eq0 : goal.returns-then-asked-eq0
+returns-then-asked-eq0 t c = from-none c.args.asked
+
+pub returns-then-closes : goal.returns-then-closes
+returns-then-closes t c = from-none c.args.asked
+
+pub returns-in_default : goal.returns-in_default
+returns-in_default t c = from-none c.args.asked
+
+pub shape_of-room : goal.shape_of-room
+shape_of-room t c = c.set_from.auto.1.1.1.0 ∙ c.set_one.auto.1.1.1.0
+
+pub returns : goal.returns
+returns t c = from_next c.args.asked c.if-asked-eq0.false c.part-s.ensures c.closes.ensures c.if-closes.false c.past.ensures c.in-Next.is c.further.ensures c.set_one.ensures c.set_from.ensures

@@ -1,0 +1,6 @@
+-- `places::moves::past_part` meets its contract.
+use borrow.Author.Rules.{rules}
+use Rattle.places.proofs.moves.past_part.Goals as goal
+
+pub returns : goal.returns
+returns c = rw c.part.ensures at c.past.ensures

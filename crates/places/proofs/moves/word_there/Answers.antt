@@ -1,0 +1,6 @@
+-- `places::moves::word_there` meets its contract.
+use borrow.Author.Rules.{rules}
+use Rattle.places.proofs.moves.word_there.Goals as goal
+
+pub returns : goal.returns
+returns c = rw c.part.ensures at c.word_at.ensures

@@ -1,0 +1,24 @@
+-- `number` (src/word.rt): the octets before the present one are digits (`Reading`).
+use Prim.Native.Nat.{◌-◌}
+use lib.ListN.{length, get_or}
+use Rattle.programs.proofs.SaidLaws.{Reading, reading-start, reading-on, too-low, too-high, says_none, says_nothing, says-number}
+use borrow.Author.Rules.{rules}
+use Rattle.programs.proofs.word.number.Goals as goal
+
+pub returns-then-w-eq0 : goal.returns-then-w-eq0
+returns-then-w-eq0 c = says_none c.args.w.now c.if-w-eq0.true
+
+pub loop-i-init : goal.loop-i-init
+loop-i-init c = reading-start c.args.w.now
+
+pub returns-then-b-lt48 : goal.returns-then-b-lt48
+returns-then-b-lt48 c = let l = c.loop-i in says_nothing c.args.w.now l.v l.i l.invariant c.loop-i-test.true (too-low (get_or c.args.w.now l.i 0) c.if-b-lt48.true)
+
+pub returns-then-b-gt57 : goal.returns-then-b-gt57
+returns-then-b-gt57 c = let l = c.loop-i in says_nothing c.args.w.now l.v l.i l.invariant c.loop-i-test.true (too-high (get_or c.args.w.now l.i 0) c.if-b-gt57.true)
+
+pub loop-i-preserved : goal.loop-i-preserved
+loop-i-preserved c = let l = c.loop-i in reading-on c.args.w.now l.v l.i c.grow-v.result l.invariant c.loop-i-test.true c.if-b-lt48.false c.if-b-gt57.false c.grow-v.ensures
+
+pub returns : goal.returns
+returns c = let l = c.loop-i in says-number c.args.w.now l.v l.i l.invariant c.loop-i-test.false c.if-w-eq0.false

@@ -1,0 +1,14 @@
+-- `set_out` of src/request.rt: the tables of rules and candidates, their numbers, the heads of rules and their arguments, and the table of atoms emptied.
+use Rattle.propose.proofs.PartsLaws.{set_out}
+use borrow.Author.Rules.{rules}
+use Rattle.propose.proofs.request.set_out.Goals as goal
+
+pub returns : goal.returns
+returns c =
+    let x = c.args in
+    let t = c.fill_tables in
+    let k = c.fill_keys in
+    let d = c.fill_heads in
+    let g = c.fill_arguments in
+    let e = c.empty_all in
+    set_out x.rules.now x.terms.now x.room.now t.new.1.1.0 k.new.1.1.0 d.new.1.0 g.new.1.1.0 e.new.0 t.auto.1.1.0 t.ensures k.ensures d.ensures g.ensures e.ensures.0 e.ensures.1

@@ -1,0 +1,16 @@
+-- `write` of src/request.rt: the first strip drawn with a short scratch buffer, and once more where it is longer.
+use Rattle.propose.proofs.AnswerLaws.{drawn-again}
+use borrow.Author.Rules.{rules}
+use Rattle.propose.proofs.request.write.Goals as goal
+
+pub returns-then-first-gt2048 : goal.returns-then-first-gt2048
+returns-then-first-gt2048 c =
+    let x = c.args in
+    let m = c.measure-first in
+    drawn-again x.height x.rules.now x.goal.now x.terms.now x.room.now m.new.1.1.1.1.1.0 _ m.new.1.1.1.1.0 x.strip.now m.result m.ensures c.write_long.new.1.1.1.1.0 c.write_long.result c.write_long.ensures
+
+pub returns : goal.returns
+returns c =
+    let x = c.args in
+    let m = c.measure-first in
+    c.hand_over.ensures x.height x.rules.now x.goal.now x.terms.now x.room.now m.new.1.1.1.1.1.0 _ m.auto.1.1.1.1.0 m.ensures

@@ -1,0 +1,502 @@
+-- The cycle of calls of src/provable.rt meets its contracts: the search of a goal, over the clauses at hand, through one clause, and of its body with one less. Assumes nothing.
+use native.Mathlib.Omega.{arith}
+use borrow.Author.Rules.{rules}
+use Prim.Native.Nat.{ℕ, ◌+◌, ◌-◌, ◌*◌, ◌≤◌, ◌<◌}
+use mathlib.Core.Path.{◌≡◌, refl, sym, ap, subst, ◌∙◌}
+use mathlib.Core.Bool.{true, false}
+use mathlib.Core.List.{List, [], ◌∷◌}
+use lib.ListN.{length, set}
+use borrow.Author.Tests.{not-true, not-false}
+use Rattle.harrop.specs.declared.Binding.TheVariants.{Candidate}
+use Rattle.packet.specs.declared.Kind.TheVariants as K
+use Rattle.packet.specs.declared.Word.TheVariants as W
+use Rattle.packet.specs.Table.{rows, rank}
+use Rattle.rows.proofs.TableLaws.{no_row, tag-rank}
+use Rattle.room.specs.Frame.{binding_word, held}
+use Rattle.room.specs.Where.{files_of}
+use Rattle.table.specs.Recall.{Says}
+use Rattle.proving.proofs.ProvingLaws as laws
+use Rattle.proving.proofs.AtomLaws as atoms
+use Rattle.proving.proofs.PassingLaws as passing
+use Rattle.proving.proofs.FillLaws as filling
+use Rattle.narrowing.proofs.TriedLaws as tried
+use Rattle.proving.proofs.LocatingLaws as locating
+use Rattle.provable.proofs.provable.+ask_body_both_decide_each_fill_find_clause_fork_look_look_and_prove_all_prove_atom_prove_goal_prove_or_prove_some_start_through_through_with_try_all_try_one_under_use_clause.{
+  statement,
+}
+use Rattle.provable.proofs.provable.+ask_body_both_decide_each_fill_find_clause_fork_look_look_and_prove_all_prove_atom_prove_goal_prove_or_prove_some_start_through_through_with_try_all_try_one_under_use_clause.Goals as goal
+
+pub ask-returns-then-not-is_due : goal.ask-returns-then-not-is_due
+ask-returns-then-not-is_due t c = filling.one-waits c.before.args.height c.is_due.ensures (not-true c.is_due.result c.if-not-is_due.true-raw)
+
+pub ask-prove_goal-requires : goal.ask-prove_goal-requires
+ask-prove_goal-requires t c = (omega (arith, c.before.requires.0), tt)
+
+pub ask-shape_of-room : goal.ask-shape_of-room
+ask-shape_of-room t c = c.prove_goal.auto.1.1.1.0
+
+pub ask-returns : goal.ask-returns
+ask-returns t c = filling.one-asked c.before.args.height c.is_due.ensures (not-false c.is_due.result c.if-not-is_due.false-raw) c.prove_goal.ensures
+
+pub body-returns-then-not-p : goal.body-returns-then-not-p
+body-returns-then-not-p t c = filling.body-none (not-true c.args.p.body c.if-not-p.true)
+
+pub body-look-requires : goal.body-look-requires
+body-look-requires t c = (omega (arith, c.decreases), tt)
+
+pub body-shape_of-room : goal.body-shape_of-room
+body-shape_of-room t c = c.look.auto.1.1.1.0
+
+pub body-returns : goal.body-returns
+body-returns t c = filling.body-looked (not-false c.args.p.body c.if-not-p.false) c.body_place.ensures c.look.ensures
+
+pub both-returns-then-not-prove_goal : goal.both-returns-then-not-prove_goal
+both-returns-then-not-prove_goal t c = laws.both_first c.within.ensures c.prove_goal.ensures (not-true c.prove_goal.result c.if-not-prove_goal.true-raw)
+
+pub both-shape_of-room-in_default : goal.both-shape_of-room-in_default
+both-shape_of-room-in_default t c = c.prove_goal.auto.1.1.1.0
+
+pub both-returns-in_default : goal.both-returns-in_default
+both-returns-in_default t c = laws.both-lost c.past_part.ensures c.in_default.is
+
+pub both-prove_goal-requires-2 : goal.both-prove_goal-requires-2
+both-prove_goal-requires-2 t c = (omega (arith, c.decreases), tt)
+
+pub both-shape_of-room : goal.both-shape_of-room
+both-shape_of-room t c = c.prove_goal-2.auto.1.1.1.0 ∙ c.prove_goal.auto.1.1.1.0
+
+pub both-returns : goal.both-returns
+both-returns t c = laws.both-second c.within.ensures c.within-2.ensures c.past_part.ensures c.in-Next.is c.prove_goal.ensures (not-false c.prove_goal.result c.if-not-prove_goal.false-raw) c.prove_goal.auto.1.1.1.0 c.prove_goal-2.ensures
+
+pub decide-find_clause-k-requires : goal.decide-find_clause-k-requires
+decide-find_clause-k-requires t c = (omega (arith, c.decreases), tt)
+
+pub decide-shape_of-room-then-clauses-k : goal.decide-shape_of-room-then-clauses-k
+decide-shape_of-room-then-clauses-k t c = c.keep.auto.1.1.1.0 ∙ c.find-clause.auto.1.1.1.0
+
+pub decide-returns-then-clauses-k : goal.decide-returns-then-clauses-k
+decide-returns-then-clauses-k t c = atoms.decide-none c.before.args.at c.find_clause-arg-1.ensures.0 c.find-clause.auto.1.1.1.0 c.clauses.ensures c.if-clauses-k.true c.plus.ensures c.keep.ensures.0 c.keep.ensures.1
+
+pub decide-shape_of-room-then-is_fact : goal.decide-shape_of-room-then-is_fact
+decide-shape_of-room-then-is_fact t c = c.find-clause.auto.1.1.1.0
+
+pub decide-returns-then-is_fact : goal.decide-returns-then-is_fact
+decide-returns-then-is_fact t c = atoms.decide-fact c.before.before.args.at c.slice_known-1.ensures.0 c.find-clause.auto.1.1.1.0 c.slice_known-2-1.ensures c.clauses.false
+
+pub decide-shape_of-room : goal.decide-shape_of-room
+decide-shape_of-room t c = c.keep-2.auto.1.1.1.0 ∙ c.find-clause.auto.1.1.1.0
+
+pub decide-returns : goal.decide-returns
+decide-returns t c = atoms.decide-some c.before.before.before.args.at c.shared_slice_known-3-1.ensures.0 c.shared_slice_known-3-1.ensures.1 c.find-clause.auto.1.1.1.0 c.room-1.ensures c.slice_known-2-1.false c.plus-2.ensures c.rule_number-number.ensures c.keep-2.ensures.0 c.keep-2.ensures.1
+
+pub each-loop-i-init : goal.each-loop-i-init
+each-loop-i-init t c = let x = c.before.args in
+    (omega arith, (refl, passing.all_start x.nest))
+
+pub each-shape_of-room-then-through_with : goal.each-shape_of-room-then-through_with
+each-shape_of-room-then-through_with t c = c.through_with.auto.1.1.1.0 ∙ c.loop-i.invariant.1.0
+
+pub each-returns-then-through_with : goal.each-returns-then-through_with
+each-returns-then-through_with t c = let x = c.before.args in
+    let l = c.loop-i in
+    passing.all-hit x.nest l.i c.candidates-n.result c.loop-i-test.true c.candidates-n.ensures l.invariant.1.1 l.invariant.1.0 c.through_with.ensures c.if-through_with.true
+
+pub each-loop-i-preserved : goal.each-loop-i-preserved
+each-loop-i-preserved t c = let x = c.before.args in
+    let l = c.loop-i in
+    (omega arith, (c.through_with.auto.1.1.1.0 ∙ l.invariant.1.0, passing.all-miss x.nest l.i c.candidates-n.result c.loop-i-test.true c.candidates-n.ensures l.invariant.1.1 l.invariant.1.0 c.through_with.ensures c.if-through_with.false))
+
+pub each-shape_of-room : goal.each-shape_of-room
+each-shape_of-room t c = c.loop-i.invariant.1.0
+
+pub each-returns : goal.each-returns
+each-returns t c = let x = c.before.args in
+    let l = c.loop-i in
+    passing.all_done x.nest l.i c.candidates-n.result c.loop-i-test.false c.candidates-n.ensures l.invariant.1.1
+
+pub fill-returns-then-k-eq0 : goal.fill-returns-then-k-eq0
+fill-returns-then-k-eq0 t c = filling.fill_end c.before.args.k c.slice_known-1.true c.fits.ensures
+
+pub fill-try_all-requires : goal.fill-try_all-requires
+fill-try_all-requires t c = (omega (arith, c.decreases, c.if-k-eq0.false), tt)
+
+pub fill-shape_of-room-then-is_open : goal.fill-shape_of-room-then-is_open
+fill-shape_of-room-then-is_open t c = c.try_all.auto.1.1.1.0
+
+pub fill-returns-then-is_open : goal.fill-returns-then-is_open
+fill-returns-then-is_open t c = filling.fill_here c.args.k c.if-k-eq0.false c.is_open.ensures c.if-is_open.true c.try_all.ensures
+
+pub fill-fill-requires : goal.fill-fill-requires
+fill-fill-requires t c = (omega (arith, c.decreases, c.if-k-eq0.false), tt)
+
+pub fill-shape_of-room : goal.fill-shape_of-room
+fill-shape_of-room t c = c.fill.auto.1.1.1.0
+
+pub fill-returns : goal.fill-returns
+fill-returns t c = filling.fill-set c.args.k c.if-k-eq0.false c.is_open.ensures c.if-is_open.false c.fill.ensures
+
+pub find_clause-loop-k-init : goal.find_clause-loop-k-init
+find_clause-loop-k-init t c = (c.next_clause-k.ensures.few, (refl, atoms.find-start c.next_clause-k.ensures))
+
+pub find_clause-use_clause-requires : goal.find_clause-use_clause-requires
+find_clause-use_clause-requires t c = (omega (arith, c.before.before.requires.0), tt)
+
+pub find_clause-shape_of-room-then-use_clause : goal.find_clause-shape_of-room-then-use_clause
+find_clause-shape_of-room-then-use_clause t c = c.use_clause.auto.1.1.1.0 ∙ c.loop-k.invariant.1.0
+
+pub find_clause-returns-then-use_clause : goal.find_clause-returns-then-use_clause
+find_clause-returns-then-use_clause t c = let l = c.loop-k in
+    (atoms.find-hit l.k c.slice_known-1.result c.loop-k-test.true c.slice_known-1.ensures l.invariant.1.1 l.invariant.1.0 c.use_clause.ensures.0 c.if-use_clause.true, locating.located-hit l.k l.invariant.1.1 l.invariant.1.0 c.use_clause.ensures.1 c.if-use_clause.true)
+
+pub find_clause-loop-k-smaller : goal.find_clause-loop-k-smaller
+find_clause-loop-k-smaller t c = let z = c.next_clause-k-in-loop-k.ensures.further (omega (arith, c.loop-k.true)) in
+    omega (arith, c.loop-k.true)
+
+pub find_clause-loop-k-preserved : goal.find_clause-loop-k-preserved
+find_clause-loop-k-preserved t c = let l = c.loop in
+    (c.next_clause-k-in-loop-k.ensures.few, (c.use-clause.auto.1.1.1.0 ∙ l.invariant.1.0, atoms.find-miss l.k l.invariant.1.1 l.invariant.1.0 (c.use-clause.auto.1.1.1.0 ∙ l.invariant.1.0) c.use_clause-arg-1.ensures.0 c.slice_known-in-loop-k-1.false c.next_clause-k-in-loop-k.ensures))
+
+pub find_clause-shape_of-room : goal.find_clause-shape_of-room
+find_clause-shape_of-room t c = c.loop-k.invariant.1.0
+
+pub find_clause-returns : goal.find_clause-returns
+find_clause-returns t c = let l = c.loop-k in
+    (atoms.find-done l.k c.slice_known-1.result c.loop-k-test.false c.slice_known-1.ensures l.invariant.1.1, locating.located-none c.slice_known-1.result c.slice_known-1.ensures)
+
+pub fork-returns-in_default : goal.fork-returns-in_default
+fork-returns-in_default t c = passing.and-lost c.args.nest c.past_part.ensures c.in_default.is
+
+pub fork-returns-then-through : goal.fork-returns-then-through
+fork-returns-then-through t c = passing.and_first c.args.nest c.further.ensures c.through.ensures.0 c.if-through.true
+
+pub fork-returns : goal.fork-returns
+fork-returns t c = passing.and_second c.args.nest c.further.ensures c.further-2.ensures c.past_part.ensures c.in-Next.is c.through.ensures.0 c.if-through.false c.through.auto.1.1.1.0 c.through-2.ensures.0
+
+pub look-look_and-requires : goal.look-look_and-requires
+look-look_and-requires t c = (omega (arith, c.decreases), tt)
+
+pub look-returns-then-not-is_due : goal.look-returns-then-not-is_due
+unfolding rank
+look-returns-then-not-is_due t c = let k = c.word_there-arg-1.result in
+    filling.look-other k c.word_there-arg-1.ensures (filling.other_word k W.And (3 ∷ []) (tag-rank k) c.match.keys2 refl) (filling.one-waits c.args.height c.is_due.ensures (not-true c.is_due.result c.if-not-is_due.true-raw))
+
+pub look-returns-then-height-eq0 : goal.look-returns-then-height-eq0
+unfolding rank
+look-returns-then-height-eq0 t c = let k = c.word_there-arg-1.result in
+    filling.look-other k c.word_there-arg-1.ensures (filling.other_word k W.And (3 ∷ []) (tag-rank k) c.match.keys2 refl) (filling.one-asked c.args.height c.is_due.ensures (not-false c.is_due.result c.if-not-is_due.false-raw) (laws.no-height c.args.height c.if-height-eq0.true))
+
+pub look-prove_atom-requires : goal.look-prove_atom-requires
+look-prove_atom-requires t c = (omega (arith, c.decreases, c.if-height-eq0.false), tt)
+
+pub look-ask-requires : goal.look-ask-requires
+look-ask-requires t c = (omega (arith, c.decreases), tt)
+
+pub look-shape_of-room-in-And : goal.look-shape_of-room-in-And
+look-shape_of-room-in-And t c = c.look_and.auto.1.1.1.0
+
+pub look-returns-in-And : goal.look-returns-in-And
+look-returns-in-And t c = let k = c.word_there.result in
+    filling.look-and k c.word_there.ensures c.in-And.is c.look_and.ensures
+
+pub look-shape_of-room-else-height-eq0 : goal.look-shape_of-room-else-height-eq0
+look-shape_of-room-else-height-eq0 t c = c.prove_atom.auto.1.1.1.0
+
+pub look-returns-else-height-eq0 : goal.look-returns-else-height-eq0
+unfolding rank
+look-returns-else-height-eq0 t c = let k = c.word_there-arg-1.result in
+    filling.look-other k c.word_there-arg-1.ensures (filling.other_word k W.And (3 ∷ []) (tag-rank k) c.match.keys2 refl) (filling.one-asked c.args.height c.is_due.ensures (not-false c.is_due.result c.if-not-is_due.false-raw) (laws.by_word c.args.height W.Atom k c.if-height-eq0.false c.word_there-arg-1.ensures c.enum-told2.given.1 c.prove_atom.ensures))
+
+pub look-shape_of-room-in_default : goal.look-shape_of-room-in_default
+look-shape_of-room-in_default t c = c.ask.auto.1.1.1.0
+
+pub look-returns-in_default : goal.look-returns-in_default
+unfolding rank
+look-returns-in_default t c = let k = c.word_there.result in
+    filling.look-other k c.word_there.ensures (filling.other_word k W.And (0 ∷ 1 ∷ 2 ∷ 4 ∷ 6 ∷ 7 ∷ 8 ∷ 9 ∷ 10 ∷ 11 ∷ 12 ∷ 13 ∷ 14 ∷ 15 ∷ []) (tag-rank k) c.in_default.in_default-own.keys3 refl) c.ask.ensures
+
+pub look_and-returns-then-height-eq0 : goal.look_and-returns-then-height-eq0
+look_and-returns-then-height-eq0 t c = filling.both-flat c.args.height c.if-height-eq0.true
+
+pub look_and-look-requires : goal.look_and-look-requires
+look_and-look-requires t c = (omega (arith, c.decreases, c.if-height-eq0.false), tt)
+
+pub look_and-shape_of-room-then-not-look : goal.look_and-shape_of-room-then-not-look
+look_and-shape_of-room-then-not-look t c = c.look.auto.1.1.1.0
+
+pub look_and-returns-then-not-look : goal.look_and-returns-then-not-look
+look_and-returns-then-not-look t c = filling.both_first c.args.height c.if-height-eq0.false c.within.ensures c.look.ensures (not-true c.look.result c.if-not-look.true-raw)
+
+pub look_and-shape_of-room-in_default : goal.look_and-shape_of-room-in_default
+look_and-shape_of-room-in_default t c = c.look.auto.1.1.1.0
+
+pub look_and-returns-in_default : goal.look_and-returns-in_default
+look_and-returns-in_default t c = filling.both-lost c.args.height c.past_part.ensures c.in_default.is
+
+pub look_and-overflow_sub-height-2 : goal.look_and-overflow_sub-height-2
+look_and-overflow_sub-height-2 t c = omega (arith, c.if-height-eq0.false)
+
+pub look_and-look-requires-2 : goal.look_and-look-requires-2
+look_and-look-requires-2 t c = (omega (arith, c.decreases, c.if-height-eq0.false), tt)
+
+pub look_and-shape_of-room : goal.look_and-shape_of-room
+look_and-shape_of-room t c = c.look-2.auto.1.1.1.0 ∙ c.look.auto.1.1.1.0
+
+pub look_and-returns : goal.look_and-returns
+look_and-returns t c = filling.both-second c.args.height c.if-height-eq0.false c.within.ensures c.within-2.ensures c.past_part.ensures c.in-Next.is c.look.ensures (not-false c.look.result c.if-not-look.false-raw) c.look.auto.1.1.1.0 c.look-2.ensures
+
+pub prove_all-returns-then-w-ge64 : goal.prove_all-returns-then-w-ge64
+prove_all-returns-then-w-ge64 t c = laws.all-full c.if-w-ge64.true
+
+pub prove_all-returns : goal.prove_all-returns
+prove_all-returns t c = laws.all-goes {p = c.args.w.parameters + 1} refl c.bound.ensures (laws.proving-from c.push.ensures c.prove_goal.ensures)
+
+pub prove_atom-returns-then-n-next_clause : goal.prove_atom-returns-then-n-next_clause
+prove_atom-returns-then-n-next_clause t c = atoms.atom-barred c.both_keys-of.result c.next_clause.result c.slice_known-1.ensures.0 c.slice_known-1.ensures.1 c.both_keys-of.ensures c.next_clause.ensures c.if-n-next_clause.true
+
+pub prove_atom-decide-requires : goal.prove_atom-decide-requires
+prove_atom-decide-requires t c = (omega (arith, c.before.before.before.before.requires.0), tt)
+
+pub prove_atom-returns-in-No : goal.prove_atom-returns-in-No
+prove_atom-returns-in-No t c = atoms.atom-recalled c.struct_known-1.result c.recall.result false c.plus.ensures c.struct_known-1.ensures.1 c.recall.ensures (λ b x. subst (Says b) c.in-No.is x)
+
+pub prove_atom-returns-in-Yes : goal.prove_atom-returns-in-Yes
+prove_atom-returns-in-Yes t c = atoms.atom-recalled c.struct_known-1.result c.recall.result true c.plus.ensures c.struct_known-1.ensures.1 c.recall.ensures (λ b x. subst (Says b) c.in-Yes.is x)
+
+pub prove_atom-shape_of-room-in-Unknown : goal.prove_atom-shape_of-room-in-Unknown
+prove_atom-shape_of-room-in-Unknown t c = c.decide.auto.1.1.1.0
+
+pub prove_atom-returns-in-Unknown : goal.prove_atom-returns-in-Unknown
+prove_atom-returns-in-Unknown t c = atoms.atom-decided c.struct_known-1.result c.shared_slice_known-2-1.ensures.0 c.shared_slice_known-2-1.ensures.1 c.struct_known-1.ensures.1 c.decide.ensures
+
+pub prove_goal-returns-then-height-eq0 : goal.prove_goal-returns-then-height-eq0
+prove_goal-returns-then-height-eq0 t c = laws.no-height c.args.height c.if-height-eq0.true
+
+pub prove_goal-returns-in-Top : goal.prove_goal-returns-in-Top
+prove_goal-returns-in-Top t c = let x = c.args in
+    laws.by_word x.height W.Top c.word_there.result c.if-height-eq0.false c.word_there.ensures c.in-Top.is (laws.top-proved (x.height - 1))
+
+pub prove_goal-returns-in-Atom : goal.prove_goal-returns-in-Atom
+prove_goal-returns-in-Atom t c = let x = c.args in
+    laws.by_word x.height W.Atom c.word_there.result c.if-height-eq0.false c.word_there.ensures c.in-Atom.is c.prove_atom.ensures
+
+pub prove_goal-returns-in-And : goal.prove_goal-returns-in-And
+prove_goal-returns-in-And t c = let x = c.args in
+    laws.by_word x.height W.And c.word_there.result c.if-height-eq0.false c.word_there.ensures c.in-And.is c.both.ensures
+
+pub prove_goal-returns-in-Or : goal.prove_goal-returns-in-Or
+prove_goal-returns-in-Or t c = let x = c.args in
+    laws.by_word x.height W.Or c.word_there.result c.if-height-eq0.false c.word_there.ensures c.in-Or.is c.prove_or.ensures
+
+pub prove_goal-returns-in-Some : goal.prove_goal-returns-in-Some
+prove_goal-returns-in-Some t c = let x = c.args in
+    laws.by_word x.height W.Some c.word_there.result c.if-height-eq0.false c.word_there.ensures c.in-Some.is c.prove_some.ensures.0
+
+pub prove_goal-returns-in-All : goal.prove_goal-returns-in-All
+prove_goal-returns-in-All t c = let x = c.args in
+    laws.by_word x.height W.All c.word_there.result c.if-height-eq0.false c.word_there.ensures c.in-All.is c.prove_all.ensures
+
+pub prove_goal-returns-in-Imp : goal.prove_goal-returns-in-Imp
+prove_goal-returns-in-Imp t c = let x = c.args in
+    laws.by_word x.height W.Imp c.word_there.result c.if-height-eq0.false c.word_there.ensures c.in-Imp.is c.under.ensures
+
+pub prove_goal-returns-in_default : goal.prove_goal-returns-in_default
+unfolding rows rank
+prove_goal-returns-in_default t c =
+    let k = c.word_there.result in
+    laws.by-other c.args.height k c.word_there.ensures (no_row K.Goal k c.in_default.in_default-own.keys8 refl)
+
+pub prove_or-returns-in_default : goal.prove_or-returns-in_default
+prove_or-returns-in_default t c = laws.either-lost c.past_part.ensures c.in_default.is
+
+pub prove_or-returns-then-prove_goal : goal.prove_or-returns-then-prove_goal
+prove_or-returns-then-prove_goal t c = laws.either_first c.within.ensures c.prove_goal.ensures c.if-prove_goal.true
+
+pub prove_or-prove_goal-requires-2 : goal.prove_or-prove_goal-requires-2
+prove_or-prove_goal-requires-2 t c = (omega (arith, c.decreases), tt)
+
+pub prove_or-returns : goal.prove_or-returns
+prove_or-returns t c = laws.either_second c.within.ensures c.within-2.ensures c.past_part.ensures c.in-Next.is c.prove_goal.ensures c.if-prove_goal.false c.prove_goal.auto.1.1.1.0 c.prove_goal-2.ensures
+
+pub prove_some-returns-then-left-p : goal.prove_some-returns-then-left-p
+prove_some-returns-then-left-p t c = (filling.some-low c.args.left c.deeper.ensures c.chain_of-p.ensures c.if-left-p.true, locating.located-no-some)
+
+pub prove_some-overflow_sub-p : goal.prove_some-overflow_sub-p
+prove_some-overflow_sub-p t c = c.chain_of-p.ensures.some (omega arith)
+
+pub prove_some-overflow_sub-left : goal.prove_some-overflow_sub-left
+prove_some-overflow_sub-left t c = omega (arith, c.if-left-p.false)
+
+pub prove_some-start-requires : goal.prove_some-start-requires
+prove_some-start-requires t c = (let l = c.chain_of-p.ensures.some (omega arith) in omega (arith, l, c.decreases, c.if-left-p.false), tt)
+
+pub prove_some-shape_of-room : goal.prove_some-shape_of-room
+prove_some-shape_of-room t c = c.start.auto.1.1.1.0
+
+pub prove_some-returns : goal.prove_some-returns
+prove_some-returns t c = let x = c.args in
+    let f = files_of x.rules.now x.goal.now x.terms.now in
+    (filling.some-goes {f = f} x.left c.deeper.ensures c.chain_of-p.ensures c.if-left-p.false c.start.ensures, filling.some-located {f = f} x.left c.deeper.ensures c.chain_of-p.ensures c.if-left-p.false c.start.ensures)
+
+pub start-shape_of-room-in_default : goal.start-shape_of-room-in_default
+start-shape_of-room-in_default t c = c.meet.auto.1.1.1.0 ∙ c.unset_all.auto.0
+
+pub start-returns-in_default : goal.start-returns-in_default
+start-returns-in_default t c = filling.plain-settled c.unset_all.ensures c.meet.ensures c.in_default.is
+
+pub start-body-requires : goal.start-body-requires
+start-body-requires t c = (omega (arith, c.decreases), tt)
+
+pub start-shape_of-room-then-not-body : goal.start-shape_of-room-then-not-body
+start-shape_of-room-then-not-body t c = c.body.auto.1.1.1.0 ∙ (c.meet.auto.1.1.1.0 ∙ c.unset_all.auto.0)
+
+pub start-returns-then-not-body : goal.start-returns-then-not-body
+start-returns-then-not-body t c = filling.plain_body c.unset_all.ensures c.meet.ensures c.in-On.is c.body.ensures (not-true c.body.result c.if-not-body.true-raw)
+
+pub start-fill-requires : goal.start-fill-requires
+start-fill-requires t c = (omega (arith, c.decreases), tt)
+
+pub start-shape_of-room : goal.start-shape_of-room
+start-shape_of-room t c = c.fill.auto.1.1.1.0 ∙ (c.body.auto.1.1.1.0 ∙ (c.meet.auto.1.1.1.0 ∙ c.unset_all.auto.0))
+
+pub start-returns : goal.start-returns
+start-returns t c = filling.plain-goes c.unset_all.ensures c.meet.ensures c.in-On.is c.body.ensures (not-false c.body.result c.if-not-body.false-raw) c.body.auto.1.1.1.0 c.fill.ensures
+
+pub through-returns-then-nest-eq0 : goal.through-returns-then-nest-eq0
+through-returns-then-nest-eq0 t c = (passing.no-nest c.args.nest c.if-nest-eq0.true, locating.located-no)
+
+pub through-start-requires : goal.through-start-requires
+through-start-requires t c = (omega (arith, c.decreases, c.parts_of-p.ensures.few), tt)
+
+pub through-shape_of-room-then-p : goal.through-shape_of-room-then-p
+through-shape_of-room-then-p t c = c.start.auto.1.1.1.0
+
+pub through-returns-then-p : goal.through-returns-then-p
+through-returns-then-p t c = (filling.plain-found c.args.nest c.parts_of-p.ensures c.if-p.true c.start.ensures, locating.located-plain c.parts_of-p.ensures c.if-p.true c.start.ensures)
+
+pub through-returns-then-not-has_head : goal.through-returns-then-not-has_head
+through-returns-then-not-has_head t c = (passing.passes_none c.args.nest c.has_head.ensures (not-true c.has_head.result c.if-not-has_head.true-raw), locating.located-no)
+
+pub through-fork-requires : goal.through-fork-requires
+through-fork-requires t c = (omega (arith, c.decreases, c.if-nest-eq0.false), tt)
+
+pub through-each-requires : goal.through-each-requires
+through-each-requires t c = (omega (arith, c.decreases, c.if-nest-eq0.false), tt)
+
+pub through-shape_of-room-in-And : goal.through-shape_of-room-in-And
+through-shape_of-room-in-And t c = c.fork.auto.1.1.1.0
+
+pub through-returns-in-And : goal.through-returns-in-And
+through-returns-in-And t c = let x = c.args in
+    (passing.by_word x.nest W.And c.word_there.result c.if-nest-eq0.false c.word_there.ensures c.in-And.is c.fork.ensures, locating.located-not c.parts_of-p.ensures c.if-p.false)
+
+pub through-shape_of-room-in-All : goal.through-shape_of-room-in-All
+through-shape_of-room-in-All t c = c.each.auto.1.1.1.0
+
+pub through-returns-in-All : goal.through-returns-in-All
+through-returns-in-All t c = let x = c.args in
+    (passing.by_word x.nest W.All c.word_there.result c.if-nest-eq0.false c.word_there.ensures c.in-All.is c.each.ensures, locating.located-not c.parts_of-p.ensures c.if-p.false)
+
+pub through-returns-in_default : goal.through-returns-in_default
+unfolding rank
+through-returns-in_default t c =
+    let k = c.word_there.result in
+    let others : List ℕ = 0 ∷ 1 ∷ 2 ∷ 3 ∷ 4 ∷ 6 ∷ 7 ∷ 9 ∷ 10 ∷ 11 ∷ 12 ∷ 13 ∷ 14 ∷ 15 ∷ [] in
+    (filling.no-path c.args.nest k c.word_there.ensures (filling.other_word k W.And others (tag-rank k) c.in_default.in_default-own.keys3 refl) (filling.other_word k W.All others (tag-rank k) c.in_default.in_default-own.keys3 refl) c.parts_of-p.ensures c.if-p.false, locating.located-no)
+
+pub through_with-returns-then-not-may_use : goal.through_with-returns-then-not-may_use
+through_with-returns-then-not-may_use t c = passing.with-barred c.before.args.i c.before.args.nest c.may_use.result c.may_use.ensures (not-true c.may_use.result c.if-not-may_use.true-raw)
+
+pub through_with-returns : goal.through_with-returns
+through_with-returns t c = let x = c.before.args in
+    passing.with-goes x.i x.nest c.may_use.result c.may_use.ensures (not-false c.may_use.result c.if-not-may_use.false-raw) c.deeper.ensures (passing.passing-from (c.push.ensures ∙ ap (λ (j : ℕ). set x.room.now j (held (binding_word (Candidate x.i)))) c.plus.ensures) c.through.ensures.0)
+
+pub try_all-loop-i-init : goal.try_all-loop-i-init
+try_all-loop-i-init t c = (omega arith, (refl, tried.from_start c.before.args.v c.candidates-n.result))
+
+pub try_all-loop-i-preserved-then-is_left_out : goal.try_all-loop-i-preserved-then-is_left_out
+try_all-loop-i-preserved-then-is_left_out t c = let l = c.loop-i in
+    let s = c.is_left_out.ensures c.if-is_left_out.true in
+    (omega arith, (l.invariant.1.0, tried.from-skip c.before.args.v c.candidates-n.result l.i c.loop-i-test.true l.invariant.1.1 s.0 (sym (try-all-slice-aggregate-is-left-out t c)) s.1))
+
+pub try_all-try_one-requires : goal.try_all-try_one-requires
+try_all-try_one-requires t c = (omega (arith, c.before.requires.0), tt)
+
+pub try_all-shape_of-room-then-try_one : goal.try_all-shape_of-room-then-try_one
+try_all-shape_of-room-then-try_one t c = c.try_one.auto.1.1.1.0 ∙ (c.loop-i.invariant.1.0 ∙ c.narrow_body-narrowed.auto.1.1.1.0)
+
+pub try_all-returns-then-try_one : goal.try_all-returns-then-try_one
+try_all-returns-then-try_one t c = let l = c.loop-i in
+    let x = c.before.args in
+    let n = c.narrow_body-narrowed in
+    filling.each-hit x.v l.i c.candidates-n.result c.loop-i-test.true c.candidates-n.ensures (l.invariant.1.1 x.room.now n.ensures n.auto.1.1.1.0 c.candidates-n.ensures) (l.invariant.1.0 ∙ n.auto.1.1.1.0) c.try_one.ensures c.if-try_one.true
+
+pub try_all-loop-i-preserved : goal.try_all-loop-i-preserved
+try_all-loop-i-preserved t c = let l = c.loop-i in
+    (omega arith, (c.try_one.auto.1.1.1.0 ∙ l.invariant.1.0, tried.from-miss c.before.args.v c.candidates-n.result l.i c.loop-i-test.true l.invariant.1.1 l.invariant.1.0 c.try_one.ensures c.if-try_one.false))
+
+pub try_all-shape_of-room : goal.try_all-shape_of-room
+try_all-shape_of-room t c = c.push.auto.0 ∙ (c.loop-i.invariant.1.0 ∙ c.narrow_body-narrowed.auto.1.1.1.0)
+
+pub try_all-returns : goal.try_all-returns
+try_all-returns t c = let l = c.loop-i in
+    let x = c.args in
+    let n = c.narrow_body-narrowed in
+    filling.each-done x.v l.i c.candidates-n.result c.loop-i-test.false c.candidates-n.ensures (l.invariant.1.1 x.room.now n.ensures n.auto.1.1.1.0 c.candidates-n.ensures) (l.invariant.1.0 ∙ n.auto.1.1.1.0) c.word_of.ensures c.push.ensures
+
+pub try_one-returns-then-not-may_use : goal.try_one-returns-then-not-may_use
+try_one-returns-then-not-may_use t c = let x = c.before.args in
+    filling.with-barred x.v x.i c.may_use.result c.may_use.ensures (not-true c.may_use.result c.if-not-may_use.true-raw)
+
+pub try_one-shape_of-room-then-not-may_fit : goal.try_one-shape_of-room-then-not-may_fit
+try_one-shape_of-room-then-not-may_fit t c = c.push.auto.0
+
+pub try_one-returns-then-not-may_fit : goal.try_one-returns-then-not-may_fit
+try_one-returns-then-not-may_fit t c = let x = c.before.args in
+    filling.with-head x.v x.i c.may_use.result c.may_use.ensures (not-false c.may_use.result c.if-not-may_use.false-raw) c.word_of-arg-1.ensures c.word_of.ensures c.may_fit.ensures (not-true c.may_fit.result c.if-not-may_fit.true-raw)
+
+pub try_one-body-requires : goal.try_one-body-requires
+try_one-body-requires t c = (omega (arith, c.before.requires.0), tt)
+
+pub try_one-shape_of-room-then-not-body : goal.try_one-shape_of-room-then-not-body
+try_one-shape_of-room-then-not-body t c = c.body.auto.1.1.1.0 ∙ c.push.auto.0
+
+pub try_one-returns-then-not-body : goal.try_one-returns-then-not-body
+try_one-returns-then-not-body t c = let x = c.before.args in
+    filling.with-body x.v x.i c.may_use.result c.may_use.ensures (not-false c.may_use.result c.if-not-may_use.false-raw) c.word_of-arg-1.ensures c.word_of.ensures c.body.ensures (not-true c.body.result c.if-not-body.true-raw)
+
+pub try_one-fill-requires : goal.try_one-fill-requires
+try_one-fill-requires t c = (omega (arith, c.before.requires.0), tt)
+
+pub try_one-shape_of-room : goal.try_one-shape_of-room
+try_one-shape_of-room t c = c.fill.auto.1.1.1.0 ∙ (c.body.auto.1.1.1.0 ∙ c.push.auto.0)
+
+pub try_one-returns : goal.try_one-returns
+try_one-returns t c = let x = c.before.args in
+    filling.with-goes x.v x.i c.may_use.result c.may_use.ensures (not-false c.may_use.result c.if-not-may_use.false-raw) c.word_of-arg-1.ensures c.word_of.ensures c.body.ensures (not-false c.body.result c.if-not-body.false-raw) c.body.auto.1.1.1.0 c.fill.ensures
+
+pub under-returns-then-left-eq0 : goal.under-returns-then-left-eq0
+under-returns-then-left-eq0 t c = laws.under-flat c.if-left-eq0.true
+
+pub under-returns-in_default : goal.under-returns-in_default
+under-returns-in_default t c = laws.under-lost c.past_part.ensures c.in_default.is
+
+pub under-prove_goal-requires : goal.under-prove_goal-requires
+under-prove_goal-requires t c = (omega (arith, c.decreases), tt)
+
+pub under-shape_of-room : goal.under-shape_of-room
+under-shape_of-room t c = c.prove_goal.auto.1.1.1.0 ∙ (c.forget.auto.0 ∙ c.suppose.auto.0)
+
+pub under-returns : goal.under-returns
+under-returns t c = laws.under_goes c.if-left-eq0.false c.further.ensures c.plus.ensures c.supposes.ensures c.past_part.ensures c.in-Next.is c.suppose.ensures c.forget.ensures.0 c.forget.ensures.1 c.prove_goal.ensures
+
+pub use_clause-returns-in_default : goal.use_clause-returns-in_default
+use_clause-returns-in_default t c = (passing.by-none c.args.k c.open_clause.ensures c.in_default.is, locating.located-no-clause c.args.k)
+
+pub use_clause-start-requires : goal.use_clause-start-requires
+use_clause-start-requires t c = (omega (arith, c.before.requires.0, c.clause_parts-p.ensures.few), tt)
+
+pub use_clause-returns-then-p : goal.use_clause-returns-then-p
+use_clause-returns-then-p t c = (filling.by_parts c.before.args.k c.open_clause-arg-1.ensures c.x.given.1 c.clause_parts-p.ensures c.if-p.true c.start.ensures, locating.located-parts c.before.args.k c.open_clause-arg-1.ensures c.x.given.1 c.clause_parts-p.ensures c.if-p.true c.start.ensures)
+
+pub use_clause-returns : goal.use_clause-returns
+use_clause-returns t c = (passing.by-clause c.before.args.k c.open_clause-arg-1.ensures c.x.given.1 c.through.ensures.0, locating.located-by c.before.args.k c.open_clause-arg-1.ensures c.x.given.1 c.through.ensures.1)

@@ -1,0 +1,110 @@
+use native.Mathlib.Omega.{arith}
+use borrow.Author.Rules.{rules}
+use Prim.Native.Nat.{ℕ, ◌+◌, ◌-◌, ◌*◌, ◌≤◌, ◌<◌}
+use mathlib.Core.Path.{◌≡◌, refl, sym, ap, subst, ◌∙◌}
+use mathlib.Core.Bool.{true, false}
+use mathlib.Core.List.{List, [], ◌∷◌}
+use lib.ListN.{length, set}
+use borrow.Author.Tests.{not-true, not-false}
+use Rattle.harrop.specs.declared.Binding.TheVariants.{Candidate}
+use Rattle.packet.specs.declared.Kind.TheVariants as K
+use Rattle.packet.specs.declared.Word.TheVariants as W
+use Rattle.packet.specs.Table.{rows, rank}
+use Rattle.rows.proofs.TableLaws.{no_row, tag-rank}
+use Rattle.room.specs.Frame.{binding_word, held}
+use Rattle.room.specs.Where.{files_of}
+use Rattle.table.specs.Recall.{Says}
+use Rattle.proving.proofs.ProvingLaws as laws
+use Rattle.proving.proofs.AtomLaws as atoms
+use Rattle.proving.proofs.PassingLaws as passing
+use Rattle.proving.proofs.FillLaws as filling
+use Rattle.narrowing.proofs.TriedLaws as tried
+use Rattle.proving.proofs.LocatingLaws as locating
+use Rattle.provable.proofs.provable.+ask_body_both_decide_each_fill_find_clause_fork_look_look_and_prove_all_prove_atom_prove_goal_prove_or_prove_some_start_through_through_with_try_all_try_one_under_use_clause.{
+  statement,
+}
+use Rattle.provable.proofs.provable.+ask_body_both_decide_each_fill_find_clause_fork_look_look_and_prove_all_prove_atom_prove_goal_prove_or_prove_some_start_through_through_with_try_all_try_one_under_use_clause.Given as goal
+
+abbrev pub decreases-ask : goal.decreases-ask
+decreases-ask l = 100000 * l.height + 600
+
+abbrev pub decreases-body : goal.decreases-body
+decreases-body l = 100000 * l.left + 900
+
+abbrev pub decreases-both : goal.decreases-both
+decreases-both l = 100000 * l.left + 90000
+
+abbrev pub decreases-decide : goal.decreases-decide
+decreases-decide l = 100000 * l.left + 88000
+
+abbrev pub decreases-each : goal.decreases-each
+decreases-each l = 100000 * l.left + 10000 + 4 * l.nest + 4
+
+abbrev pub decreases-fill : goal.decreases-fill
+decreases-fill l = 100000 * l.left + 1000 + 10 * l.k + 3
+
+abbrev pub decreases-find_clause : goal.decreases-find_clause
+decreases-find_clause l = 100000 * l.left + 86000
+
+abbrev pub decreases-fork : goal.decreases-fork
+decreases-fork l = 100000 * l.left + 10000 + 4 * l.nest + 5
+
+abbrev pub decreases-look : goal.decreases-look
+decreases-look l = 100000 * l.height + 800
+
+abbrev pub decreases-look_and : goal.decreases-look_and
+decreases-look_and l = 100000 * l.height + 700
+
+abbrev pub decreases-prove_all : goal.decreases-prove_all
+decreases-prove_all l = 100000 * l.left + 90000
+
+abbrev pub decreases-prove_atom : goal.decreases-prove_atom
+decreases-prove_atom l = 100000 * l.left + 90000
+
+abbrev pub decreases-prove_goal : goal.decreases-prove_goal
+decreases-prove_goal l = 100000 * l.height + 400
+
+abbrev pub decreases-prove_or : goal.decreases-prove_or
+decreases-prove_or l = 100000 * l.left + 90000
+
+abbrev pub decreases-prove_some : goal.decreases-prove_some
+decreases-prove_some l = 100000 * l.left + 90000
+
+abbrev pub decreases-start : goal.decreases-start
+decreases-start l = 100000 * l.left + 1000 + 10 * l.p.own + 5
+
+abbrev pub decreases-through : goal.decreases-through
+decreases-through l = 100000 * l.left + 10000 + 4 * l.nest + 2
+
+abbrev pub decreases-through_with : goal.decreases-through_with
+decreases-through_with l = 100000 * l.left + 10000 + 4 * l.nest + 3
+
+abbrev pub decreases-try_all : goal.decreases-try_all
+decreases-try_all l = 100000 * l.left + 1000 + 10 * l.v + 8
+
+abbrev pub decreases-try_one : goal.decreases-try_one
+decreases-try_one l = 100000 * l.left + 1000 + 10 * l.v + 6
+
+abbrev pub decreases-under : goal.decreases-under
+decreases-under l = 100000 * l.left + 90000
+
+abbrev pub decreases-use_clause : goal.decreases-use_clause
+decreases-use_clause l = 100000 * l.left + 80000
+
+abbrev pub invariant-loop-i : goal.invariant-loop-i
+invariant-loop-i l = (l.i ≤ l.n) × ((length l.room ≡ length l.initial.room) × passing.AllLeft (files_of l.rules l.goal l.terms) l.initial.room l.w l.x l.nest l.left l.room l.i)
+
+abbrev pub decreases-loop-i : goal.decreases-loop-i
+decreases-loop-i l = l.n - l.i
+
+abbrev pub invariant-loop-k : goal.invariant-loop-k
+invariant-loop-k l = (l.k ≤ l.n) × ((length l.room ≡ length l.initial.room) × atoms.FindLeft (files_of l.rules l.goal l.terms) l.initial.room l.w l.predicate l.key l.left l.room l.k)
+
+abbrev pub decreases-loop-k : goal.decreases-loop-k
+decreases-loop-k l = l.n - l.k
+
+abbrev pub invariant-loop-i : goal.invariant-loop-i
+invariant-loop-i l = (l.i ≤ l.n) × ((length l.room ≡ length l.initial.room) × tried.EachFrom (files_of l.rules l.goal l.terms) l.initial.room l.w l.p l.v l.left l.marks l.narrowed l.n l.room l.i)
+
+abbrev pub decreases-loop-i : goal.decreases-loop-i
+decreases-loop-i l = l.n - l.i

@@ -1,0 +1,6 @@
+-- `body_place` of src/plain.rt meets its contract. Assumes nothing.
+use borrow.Author.Rules.{rules}
+use Rattle.proving.proofs.plain.body_place.Goals as goal
+
+pub returns : goal.returns
+returns c = cc

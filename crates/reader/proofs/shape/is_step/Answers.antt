@@ -1,0 +1,22 @@
+-- Octets that are a step of a path.
+use mathlib.Core.Path.{◌∙◌}
+use Rattle.reader.proofs.TextLaws.{step-l, step-r, step-number}
+use borrow.Author.Rules.{rules}
+use Rattle.reader.proofs.shape.is_step.Goals as goal
+
+-- LEFT
+slice-aggregate-same : tie.Need-slice-aggregate-same
+slice-aggregate-same c = search rules
+
+-- LEFT
+slice-aggregate-same-2 : tie.Need-slice-aggregate-same-2
+slice-aggregate-same-2 c = search rules
+
+pub returns-then-same : goal.returns-then-same
+returns-then-same c = step-l c.args.w.now c.same.result c.if-same.true c.same.ensures
+
+pub returns-then-same-2 : goal.returns-then-same-2
+returns-then-same-2 c = step-r c.args.w.now c.same-2.result c.if-same-2.true c.same-2.ensures
+
+pub returns : goal.returns
+returns c = c.is_number.ensures ∙ step-number c.args.w.now c.same.result c.same-2.result c.if-same.false c.same.ensures c.if-same-2.false c.same-2.ensures

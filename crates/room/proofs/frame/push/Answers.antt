@@ -1,0 +1,11 @@
+-- `push` of src/frame.rt meets its contract. Assumes nothing.
+use lib.ListN.{set}
+use Prim.Native.Nat.{ℕ}
+use mathlib.Core.Path.{sym, ap, ◌∙◌}
+use native.Mathlib.Omega.{arith}
+use borrow.Author.Rules.{rules}
+use Rattle.room.proofs.frame.push.Goals as goal
+
+pub returns : goal.returns
+returns c = let x = c.args in
+    c.put.ensures ∙ ap (λ (w : ℕ). set x.room.now x.top w) c.word_of.ensures

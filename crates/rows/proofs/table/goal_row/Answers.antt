@@ -1,0 +1,41 @@
+-- What is due after a word of the kind `Goal`: each arm is a row of the table, and every other word has none.
+use mathlib.Core.Path.{refl, sym, ap}
+use borrow.Author.Rules.{rules}
+use Rattle.packet.specs.declared.Word.{Word}
+use Rattle.packet.specs.declared.Kind.TheVariants as K
+use Rattle.rows.specs.Rows.{row_of}
+use Rattle.packet.specs.Table.{due_after, rows, rank}
+use Rattle.rows.proofs.TableLaws.{no_row}
+use Rattle.rows.proofs.table.goal_row.Goals as goal
+
+pub returns-in-Top : goal.returns-in-Top
+unfolding due_after rows rank
+returns-in-Top c = sym (ap (λ (w : Word). row_of (due_after K.Goal w)) c.in-Top.is)
+
+pub returns-in-Atom : goal.returns-in-Atom
+unfolding due_after rows rank
+returns-in-Atom c = sym (ap (λ (w : Word). row_of (due_after K.Goal w)) c.in-Atom.is)
+
+pub returns-in-And : goal.returns-in-And
+unfolding due_after rows rank
+returns-in-And c = sym (ap (λ (w : Word). row_of (due_after K.Goal w)) c.in-And.is)
+
+pub returns-in-Or : goal.returns-in-Or
+unfolding due_after rows rank
+returns-in-Or c = sym (ap (λ (w : Word). row_of (due_after K.Goal w)) c.in-Or.is)
+
+pub returns-in-Some : goal.returns-in-Some
+unfolding due_after rows rank
+returns-in-Some c = sym (ap (λ (w : Word). row_of (due_after K.Goal w)) c.in-Some.is)
+
+pub returns-in-All : goal.returns-in-All
+unfolding due_after rows rank
+returns-in-All c = sym (ap (λ (w : Word). row_of (due_after K.Goal w)) c.in-All.is)
+
+pub returns-in-Imp : goal.returns-in-Imp
+unfolding due_after rows rank
+returns-in-Imp c = sym (ap (λ (w : Word). row_of (due_after K.Goal w)) c.in-Imp.is)
+
+pub returns-in_default : goal.returns-in_default
+unfolding rows rank
+returns-in_default c = no_row K.Goal c.args.w c.in_default.in_default-own.keys8 refl

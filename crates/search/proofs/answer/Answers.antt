@@ -1,0 +1,21 @@
+-- `answer` (src/main.rt): the strip that is found lies inside the buffer.
+use native.Mathlib.Omega.{arith}
+use borrow.Author.Rules.{rules}
+use mathlib.Core.Path.{sym}
+use lib.Seq.{length-take-le}
+use Rattle.proposal.proofs.InsideLaws.{found_inside}
+use Rattle.search.proofs.answer.Goals as goal
+
+-- LEFT
+slice-aggregate-say : tie.Need-slice-aggregate-say
+slice-aggregate-say c = search rules
+
+-- LEFT
+slice-aggregate-say-2 : tie.Need-slice-aggregate-say-2
+slice-aggregate-say-2 c = search rules
+
+pub slice_bounds-save-end : goal.slice_bounds-save-end
+slice_bounds-save-end c = let k = c.propose in let l = found_inside k.ensures c.in-Found.is in let e = k.auto.1.1.1.1.0 in omega arith
+
+pub slice_bounds-save-end-in-Found : goal.slice_bounds-save-end-in-Found
+slice_bounds-save-end-in-Found c = let k = c.propose in let l = found_inside k.ensures c.height.given.1 in let e = k.auto.1.1.1.1.0 in sym (length-take-le c.height.given.0.1.1.0 k.new.1.1.1.1.0 (omega arith))

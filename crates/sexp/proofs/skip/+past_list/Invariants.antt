@@ -1,0 +1,18 @@
+use Prim.Native.Nat.{◌-◌}
+use lib.ListN.{length}
+use Rattle.sexp.proofs.AnswerLaws.{past_next, past-nothing}
+use Rattle.sexp.proofs.SkipLaws.{Going, past-deep, going_start, going_on, going-string, pair-past, ends-further, string-further, past-whole, past_stop, past-cut}
+use Rattle.sexp.proofs.StandLaws.{byte_inside}
+use native.Mathlib.Omega.{arith}
+use borrow.Author.Rules.{rules}
+use Prim.Native.Nat.{ℕ, ◌<◌}
+use Rattle.sexp.proofs.skip.+past_list.Given as goal
+
+abbrev pub decreases-past_list : goal.decreases-past_list
+decreases-past_list l = l.nest
+
+abbrev pub invariant-loop-i : goal.invariant-loop-i
+invariant-loop-i l = Going l.s l.at (l.nest - 1) l.i
+
+abbrev pub decreases-loop-i : goal.decreases-loop-i
+decreases-loop-i l = length l.s - l.i

@@ -1,0 +1,9 @@
+-- `opens` meets its contract.
+use Prim.Native.Nat.{ℕ}
+use mathlib.Core.Path.{ap}
+use lib.Dec.{eqb}
+use borrow.Author.Rules.{rules}
+use Rattle.sexp.proofs.strings.opens.Goals as goal
+
+pub returns : goal.returns
+returns c = ap (λ (x : ℕ). eqb x 40) c.byte.ensures

@@ -1,0 +1,33 @@
+-- `tptp` of src/lib.rt: 1, 12, the refusals of the lines, or both files written by a second reading.
+use borrow.Author.Tests.{not-true, not-false}
+use Rattle.tptp.proofs.ConvertedLaws.{too_long, not_sound, refused-lines, written-lines}
+use borrow.Author.Rules.{rules}
+use Rattle.tptp.proofs.tptp.Goals as goal
+
+pub returns-then-text-gt16384 : goal.returns-then-text-gt16384
+returns-then-text-gt16384 c =
+    let x = c.args in
+    too_long x.text.now x.rules.now x.goal.now c.refused.result c.if-text-gt16384.true c.refused.ensures
+
+pub returns-then-not-sound_text : goal.returns-then-not-sound_text
+returns-then-not-sound_text c =
+    let x = c.args in
+    let s = c.sound_text in
+    not_sound x.text.now x.rules.now x.goal.now s.result c.refused-then-not-sound_text.result c.if-text-gt16384.false s.ensures (not-true s.result c.if-not-sound_text.true-raw) c.refused-then-not-sound_text.ensures
+
+pub returns-then-n-ne0 : goal.returns-then-n-ne0
+returns-then-n-ne0 c =
+    let x = c.args in
+    let s = c.sound_text in
+    let m = c.decreases in
+    let n = c.reason-n in
+    refused-lines x.text.now x.rules.now x.goal.now s.result m.result n.result c.refused-then-n-ne0.result c.if-text-gt16384.false s.ensures (not-false s.result c.if-not-sound_text.false-raw) m.ensures n.ensures c.if-n-ne0.true c.refused-then-n-ne0.ensures
+
+pub returns : goal.returns
+returns c =
+    let x = c.args in
+    let s = c.sound_text in
+    let m = c.decreases in
+    let n = c.reason-n in
+    let q = c.pass-p in
+    written-lines x.text.now x.rules.now q.new.1.0 x.goal.now q.new.1.1.0 s.result m.result q.result n.result c.if-text-gt16384.false s.ensures (not-false s.result c.if-not-sound_text.false-raw) m.ensures n.ensures c.if-n-ne0.false q.ensures

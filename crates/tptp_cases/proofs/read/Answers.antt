@@ -1,0 +1,23 @@
+-- `read` (src/main.rt): the two files that are written lie inside their buffers.
+use mathlib.Core.Path.{sym}
+use lib.Seq.{length-take-le}
+use Rattle.tptp.proofs.TrueLaws.{written-inside}
+use native.Mathlib.Omega.{arith}
+use borrow.Author.Rules.{rules}
+use Rattle.tptp_cases.proofs.read.Goals as goal
+
+-- LEFT
+slice-aggregate-say : tie.Need-slice-aggregate-say
+slice-aggregate-say c = search rules
+
+pub slice_bounds-written-end : goal.slice_bounds-written-end
+slice_bounds-written-end c = let k = c.tptp in let l = written-inside k.ensures c.in-Written.r c.in-Written.g c.in-Written.is in let q = k.auto.1.0 in omega (arith, l.0)
+
+pub slice_bounds-written-end-in-Written : goal.slice_bounds-written-end-in-Written
+slice_bounds-written-end-in-Written c = let k = c.tptp in let l = written-inside k.ensures c.r.given.0.0 c.r.given.0.1.0 c.r.given.1 in let q = k.auto.1.0 in sym (length-take-le c.r.given.0.0 k.new.1.0 (omega (arith, l.0)))
+
+pub slice_bounds-written-end-in-Written-2 : goal.slice_bounds-written-end-in-Written-2
+slice_bounds-written-end-in-Written-2 c = let k = c.tptp in let l = written-inside k.ensures c.r.given.0.0 c.r.given.0.1.0 c.r.given.1 in let q = k.auto.1.1.0 in omega (arith, l.1)
+
+pub slice_bounds-written-end-in-Written-3 : goal.slice_bounds-written-end-in-Written-3
+slice_bounds-written-end-in-Written-3 c = let k = c.tptp in let l = written-inside k.ensures c.r.given.0.0 c.r.given.0.1.0 c.r.given.1 in let q = k.auto.1.1.0 in sym (length-take-le c.r.given.0.1.0 k.new.1.1.0 (omega (arith, l.1)))

@@ -1,0 +1,20 @@
+-- `sized` (src/main.rt): each buffer is the front of the bytes for a file.
+use native.Mathlib.Omega.{arith}
+use mathlib.Core.Path.{sym}
+use lib.Seq.{length-take-le}
+use borrow.Author.Rules.{rules}
+use Rattle.tptp_cases.proofs.sized.Goals as goal
+
+-- LEFT
+slice-aggregate-say : tie.Need-slice-aggregate-say
+slice-aggregate-say c = search rules
+
+-- LEFT
+slice-aggregate-say-2 : tie.Need-slice-aggregate-say-2
+slice-aggregate-say-2 c = search rules
+
+pub slice_bounds-read-end : goal.slice_bounds-read-end
+slice_bounds-read-end c = let e = c.blank-rules.ensures in let l = c.if-r-gt20000.false in sym (length-take-le c.args.r c.blank-rules.result (omega arith))
+
+pub slice_bounds-read-end-2 : goal.slice_bounds-read-end-2
+slice_bounds-read-end-2 c = let e = c.blank-goal.ensures in let l = c.if-g-gt20000.false in sym (length-take-le c.args.g c.blank-goal.result (omega arith))

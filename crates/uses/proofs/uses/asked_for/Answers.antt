@@ -1,0 +1,28 @@
+-- `asked_for` of src/uses.rt meets its contract. Assumes nothing.
+use Rattle.sexp.proofs.AnswerLaws.{past_next, past-nothing}
+use Rattle.sexp.proofs.StandLaws.{stands-before}
+use Rattle.sexp.proofs.WordsAtLaws.{number_is, number-nothing}
+use Rattle.packet.specs.Written.{number}
+use Rattle.uses.proofs.NodeLaws.{ends_is}
+use Rattle.uses.proofs.PathLaws.{far-number, number-agrees}
+use Rattle.uses.proofs.EndLaws.{use-number, ends-inside}
+use native.Mathlib.Omega.{arith}
+use borrow.Author.Rules.{rules}
+use Rattle.uses.proofs.uses.asked_for.Goals as goal
+
+pub returns-then-strip-at : goal.returns-then-strip-at
+returns-then-strip-at c = let x = c.args in
+    (tt, λ k steps more h. absurd (omega (arith, stands-before h, c.if-strip-at.true)))
+
+pub returns-in_default : goal.returns-in_default
+returns-in_default c = let x = c.args in
+    (tt, λ k steps more h. far-number (use-number x.strip.now x.at k steps more h) (number-nothing c.in_default.is c.number.ensures))
+
+pub returns-in_default-past : goal.returns-in_default-past
+returns-in_default-past c = let x = c.args in
+    (tt, λ k steps more h. absurd (past-nothing c.in_default-past.is c.past.ensures (number k) (use-number x.strip.now x.at k steps more h) (omega arith)))
+
+pub returns : goal.returns
+returns c = let x = c.args in
+    let e = past_next c.in-Next.is c.past.ensures in
+    (ends-inside e, λ k steps more h. (number-agrees (number_is c.in-Is.is c.number.ensures) (use-number x.strip.now x.at k steps more h), ends_is (use-number x.strip.now x.at k steps more h) e))

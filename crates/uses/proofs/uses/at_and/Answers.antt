@@ -1,0 +1,35 @@
+-- `at_and` of src/uses.rt meets its contract. Assumes nothing.
+use mathlib.Core.Path.{sym, ◌∙◌}
+use borrow.Author.Tests.{not-true, not-false}
+use Rattle.basics.specs.Tells.{told-yes, told-no}
+use Rattle.sexp.proofs.AnswerLaws.{past_next, past-nothing}
+use Rattle.uses.proofs.PathLaws.{and_left, and_right, and-neither, and-found}
+use native.Mathlib.Omega.{arith}
+use borrow.Author.Rules.{rules}
+use Rattle.uses.proofs.uses.at_and.Goals as goal
+
+-- LEFT
+-- src/uses.rt:88:27
+slice-aggregate-is-word : tie.Need-slice-aggregate-is-word
+slice-aggregate-is-word c = search rules
+
+-- LEFT
+-- src/uses.rt:91:28
+slice-aggregate-is-word-2 : tie.Need-slice-aggregate-is-word-2
+slice-aggregate-is-word-2 c = search rules
+
+pub returns-then-is_word : goal.returns-then-is_word
+returns-then-is_word c = let x = c.args in
+    (tt, λ p d s path k l h e. and_left x.clause.now x.strip.now x.at x.next p d path s k h e (told-yes c.if-is_word.true c.is_word.ensures))
+
+pub returns-then-not-is_word : goal.returns-then-not-is_word
+returns-then-not-is_word c = let x = c.args in
+    (tt, λ p d s path k l h e. and-neither x.clause.now x.strip.now x.at x.next p d path s h (told-no c.if-is_word.false c.if-is_word.ensures) (told-no (not-true c.is_word-2.result c.if-not-is_word.true-raw) c.is_word-2.ensures))
+
+pub returns-in-Nothing : goal.returns-in-Nothing
+returns-in-Nothing c = let x = c.args in
+    (tt, λ p d s path k l h e. absurd (and-found x.clause.now x.strip.now x.at x.next p d path k l (past-nothing c.in-Nothing.is c.past.ensures)))
+
+pub returns-in-Next : goal.returns-in-Next
+returns-in-Next c = let x = c.args in
+    (tt, λ p d s path k l h e. and_right x.clause.now x.strip.now x.at x.next p d path s c.in-Next.i k h e (told-yes (not-false c.is_word-2.result c.if-not-is_word.false-raw) c.is_word-2.ensures) (past_next c.in-Next.is c.past.ensures))

@@ -1,0 +1,257 @@
+-- The cycle of calls of src/write.rt meets its contracts: the first strip of a goal, of its parts, along the path through a clause and of its body with one less. Assumes nothing.
+use mathlib.Core.Path.{refl, ap, ◌∙◌}
+use lib.ListN.{length, set}
+use borrow.Rule.Slice.PartMut.{put_mid}
+use Rattle.harrop.specs.declared.Binding.TheVariants.{Candidate}
+use Rattle.packet.specs.declared.Kind.TheVariants as K
+use Rattle.packet.specs.declared.Word.TheVariants as W
+use Rattle.packet.specs.Table.{rows, rank}
+use Rattle.rows.proofs.TableLaws.{no_row}
+use Rattle.room.specs.Frame.{binding_word, held}
+use Rattle.proving.proofs.PassingLaws as passing
+use Rattle.drawing.proofs.WritingLaws as writing
+use Rattle.drawing.proofs.PathingLaws as pathing
+use native.Mathlib.Omega.{arith}
+use borrow.Author.Rules.{rules}
+use Prim.Native.Nat.{ℕ, ◌+◌, ◌-◌, ◌*◌, ◌<◌}
+use Rattle.writer.proofs.write.+path_all_path_and_write_all_write_body_write_both_write_either_write_goal_write_path_write_some_write_under_write_use.{
+  statement,
+}
+use Rattle.writer.proofs.write.+path_all_path_and_write_all_write_body_write_both_write_either_write_goal_write_path_write_some_write_under_write_use.Goals as goal
+
+-- LEFT
+-- src/write.rt:418:32
+path-and-slice-aggregate-put : (t : ℕ) → path-and-lts.Need-slice-aggregate-put (past-part-reads.Asked, past-part-reads.Learnt, nothing-reads.Asked, nothing-reads.Learnt, further-reads.Asked, further-reads.Learnt, through-reads.Asked, through-reads.Learnt, put_reads.Asked, put_reads.Learnt, cut-reads.Asked, cut-reads.Learnt, write-path-below t, write-path.Post, behind-reads.Asked, behind-reads.Learnt) (path-and-at t) path-and.Post
+path-and-slice-aggregate-put t c = search rules
+
+-- LEFT
+-- src/write.rt:437:28
+path-and-slice-aggregate-put-2 : (t : ℕ) → path-and-lts.Need-slice-aggregate-put-2 (past-part-reads.Asked, past-part-reads.Learnt, nothing-reads.Asked, nothing-reads.Learnt, further-reads.Asked, further-reads.Learnt, through-reads.Asked, through-reads.Learnt, put_reads.Asked, put_reads.Learnt, cut-reads.Asked, cut-reads.Learnt, write-path-below t, write-path.Post, behind-reads.Asked, behind-reads.Learnt) (path-and-at t) path-and.Post
+path-and-slice-aggregate-put-2 t c = search rules
+
+-- LEFT
+-- src/write.rt:223:42
+write-all-cast-t18 : (t : ℕ) → write-all-lts.Need-overflow-cast-t18 (nothing-reads.Asked, nothing-reads.Learnt, push-reads.Asked, push-reads.Learnt, put_reads.Asked, put_reads.Learnt, cut-reads.Asked, cut-reads.Learnt, bound-reads.Asked, bound-reads.Learnt, write-goal-below t, write-goal.Post, behind-reads.Asked, behind-reads.Learnt, close-reads.Asked, close-reads.Learnt) (write-all-at t) write-all.Post
+write-all-cast-t18 t c = search rules
+
+-- LEFT
+-- src/write.rt:224:28
+write-all-slice-aggregate-put : (t : ℕ) → write-all-lts.Need-slice-aggregate-put (nothing-reads.Asked, nothing-reads.Learnt, push-reads.Asked, push-reads.Learnt, put_reads.Asked, put_reads.Learnt, cut-reads.Asked, cut-reads.Learnt, bound-reads.Asked, bound-reads.Learnt, write-goal-below t, write-goal.Post, behind-reads.Asked, behind-reads.Learnt, close-reads.Asked, close-reads.Learnt) (write-all-at t) write-all.Post
+write-all-slice-aggregate-put t c = search rules
+
+-- LEFT
+-- src/write.rt:376:28
+write-body-slice-aggregate-put : (t : ℕ) → write-body-lts.Need-slice-aggregate-put (put_reads.Asked, put_reads.Learnt, further-reads.Asked, further-reads.Learnt, plus-reads.Asked, plus-reads.Learnt, cut-reads.Asked, cut-reads.Learnt, write-goal-below t, write-goal.Post, behind-reads.Asked, behind-reads.Learnt) (write-body-at t) write-body.Post
+write-body-slice-aggregate-put t c = search rules
+
+-- LEFT
+-- src/write.rt:88:28
+write-both-slice-aggregate-put : (t : ℕ) → write-both-lts.Need-slice-aggregate-put (past-part-reads.Asked, past-part-reads.Learnt, nothing-reads.Asked, nothing-reads.Learnt, put_reads.Asked, put_reads.Learnt, cut-reads.Asked, cut-reads.Learnt, within-reads.Asked, within-reads.Learnt, write-goal-below t, write-goal.Post, behind-reads.Asked, behind-reads.Learnt, beside-reads.Asked, beside-reads.Learnt, close-reads.Asked, close-reads.Learnt) (write-both-at t) write-both.Post
+write-both-slice-aggregate-put t c = search rules
+
+-- LEFT
+-- src/write.rt:137:32
+write-either-slice-aggregate-put : (t : ℕ) → write-either-lts.Need-slice-aggregate-put (past-part-reads.Asked, past-part-reads.Learnt, nothing-reads.Asked, nothing-reads.Learnt, within-reads.Asked, within-reads.Learnt, prove-goal-reads.Asked, prove-goal-reads.Learnt, put_reads.Asked, put_reads.Learnt, cut-reads.Asked, cut-reads.Learnt, write-goal-below t, write-goal.Post, behind-reads.Asked, behind-reads.Learnt, close-reads.Asked, close-reads.Learnt) (write-either-at t) write-either.Post
+write-either-slice-aggregate-put t c = search rules
+
+-- LEFT
+-- src/write.rt:154:28
+write-either-slice-aggregate-put-2 : (t : ℕ) → write-either-lts.Need-slice-aggregate-put-2 (past-part-reads.Asked, past-part-reads.Learnt, nothing-reads.Asked, nothing-reads.Learnt, within-reads.Asked, within-reads.Learnt, prove-goal-reads.Asked, prove-goal-reads.Learnt, put_reads.Asked, put_reads.Learnt, cut-reads.Asked, cut-reads.Learnt, write-goal-below t, write-goal.Post, behind-reads.Asked, behind-reads.Learnt, close-reads.Asked, close-reads.Learnt) (write-either-at t) write-either.Post
+write-either-slice-aggregate-put-2 t c = search rules
+
+-- LEFT
+-- src/write.rt:187:28
+write-some-slice-aggregate-put : (t : ℕ) → write-some-lts.Need-slice-aggregate-put (first-with-reads.Asked, first-with-reads.Learnt, push-reads.Asked, push-reads.Learnt, put_reads.Asked, put_reads.Learnt, put-number-reads.Asked, put-number-reads.Learnt, cut-reads.Asked, cut-reads.Learnt, bound-reads.Asked, bound-reads.Learnt, write-goal-below t, write-goal.Post, behind-reads.Asked, behind-reads.Learnt, close-reads.Asked, close-reads.Learnt) (write-some-at t) write-some.Post
+write-some-slice-aggregate-put t c = search rules
+
+-- LEFT
+-- src/write.rt:263:28
+write-under-slice-aggregate-put : (t : ℕ) → write-under-lts.Need-slice-aggregate-put (nothing-reads.Asked, nothing-reads.Learnt, past-part-reads.Asked, past-part-reads.Learnt, further-reads.Asked, further-reads.Learnt, suppose-reads.Asked, suppose-reads.Learnt, plus-reads.Asked, plus-reads.Learnt, forget-reads.Asked, forget-reads.Learnt, put_reads.Asked, put_reads.Learnt, cut-reads.Asked, cut-reads.Learnt, supposes-reads.Asked, supposes-reads.Learnt, write-goal-below t, write-goal.Post, behind-reads.Asked, behind-reads.Learnt, close-reads.Asked, close-reads.Learnt) (write-under-at t) write_under.Post
+write-under-slice-aggregate-put t c = search rules
+
+-- LEFT
+-- src/write.rt:299:28
+write-use-slice-aggregate-put : (t : ℕ) → write-use-lts.Need-slice-aggregate-put (first-clause-reads.Asked, first-clause-reads.Learnt, open-clause-reads.Asked, open-clause-reads.Learnt, nothing-reads.Asked, nothing-reads.Learnt, is-plain-reads.Asked, is-plain-reads.Learnt, put_reads.Asked, put_reads.Learnt, put-number-reads.Asked, put-number-reads.Learnt, cut-reads.Asked, cut-reads.Learnt, write-path-below t, write-path.Post, behind-reads.Asked, behind-reads.Learnt, close-reads.Asked, close-reads.Learnt) (write-use-at t) write-use.Post
+write-use-slice-aggregate-put t c = search rules
+
+-- LEFT
+-- src/write.rt:301:27
+write-use-slice-aggregate-put-2 : (t : ℕ) → write-use-lts.Need-slice-aggregate-put-2 (first-clause-reads.Asked, first-clause-reads.Learnt, open-clause-reads.Asked, open-clause-reads.Learnt, nothing-reads.Asked, nothing-reads.Learnt, is-plain-reads.Asked, is-plain-reads.Learnt, put_reads.Asked, put_reads.Learnt, put-number-reads.Asked, put-number-reads.Learnt, cut-reads.Asked, cut-reads.Learnt, write-path-below t, write-path.Post, behind-reads.Asked, behind-reads.Learnt, close-reads.Asked, close-reads.Learnt) (write-use-at t) write-use.Post
+write-use-slice-aggregate-put-2 t c = search rules
+
+pub path_all-shape_of-room : goal.path_all-shape_of-room
+path_all-shape_of-room t c = c.write_path.auto.1.1.1.0 ∙ (c.push.auto.0 ∙ c.number_through-i.auto.1.1.1.0)
+
+pub path_all-returns : goal.path_all-returns
+path_all-returns t c = let x = c.args in
+    let i = c.number_through-i.result in
+    pathing.all-with x.nest i x.located c.number_through-i.ensures c.number_through-i.auto.1.1.1.0 c.put_number-m.ensures c.deeper.ensures (pathing.pathing-from (c.push.ensures ∙ ap (λ (j : ℕ). set c.number_through-i.new.1.1.1.0 j (held (binding_word (Candidate i)))) c.plus.ensures) (pathing.pathing-lent c.cut-from.ensures c.behind.ensures c.write_path.ensures))
+
+pub path_and-returns-in_default : goal.path_and-returns-in_default
+path_and-returns-in_default t c = pathing.and-lost c.args.nest c.past_part.ensures c.in_default.is
+
+pub path_and-write_path-requires : goal.path_and-write_path-requires
+path_and-write_path-requires t c = (omega (arith, c.decreases), tt)
+
+pub path_and-returns-then-through : goal.path_and-returns-then-through
+path_and-returns-then-through t c = pathing.and_left c.args.nest c.further.ensures c.through.ensures.0 c.if-through.true c.through.auto.1.1.1.0 c.put-m.ensures c.further-then-through.ensures (pathing.pathing-lent c.cut-from.ensures c.behind.ensures c.write_path.ensures)
+
+pub path_and-write_path-requires-2 : goal.path_and-write_path-requires-2
+path_and-write_path-requires-2 t c = (omega (arith, c.decreases), tt)
+
+pub path_and-returns : goal.path_and-returns
+path_and-returns t c = pathing.and_right c.args.nest c.past_part.ensures c.in-Next.is c.further.ensures c.through.ensures.0 c.if-through.false c.through.auto.1.1.1.0 c.put-m-2.ensures c.further-2.ensures (pathing.pathing-lent c.cut-from-2.ensures c.behind-2.ensures c.write_path-2.ensures)
+
+pub write_all-returns-then-w-ge64 : goal.write_all-returns-then-w-ge64
+write_all-returns-then-w-ge64 t c = writing.all-full c.if-w-ge64.true
+
+pub write_all-write_goal-requires : goal.write_all-write_goal-requires
+write_all-write_goal-requires t c = (omega (arith, c.decreases), tt)
+
+pub write_all-shape_of-room : goal.write_all-shape_of-room
+write_all-shape_of-room t c = c.write_goal.auto.1.1.1.0 ∙ c.push.auto.0
+
+pub write_all-returns : goal.write_all-returns
+write_all-returns t c = writing.all-drawn (c.args.w.parameters + 1) refl c.put-m.ensures c.bound.ensures (writing.writing-from c.push.ensures (pathing.writing-lent c.cut-from.ensures c.behind-a.ensures c.write_goal.ensures)) c.close.ensures
+
+pub write_body-returns : goal.write_body-returns
+write_body-returns t c = λ nest. let x = c.args in
+    pathing.body-ends nest c.put-m.ensures (passing.body_is x.w x.x 6 c.further.ensures c.plus.ensures) (pathing.writing-lent c.cut-from.ensures c.behind.ensures c.write_goal.ensures)
+
+pub write_both-returns-in_default : goal.write_both-returns-in_default
+write_both-returns-in_default t c = writing.both-lost c.past_part.ensures c.in_default.is
+
+pub write_both-write_goal-requires-2 : goal.write_both-write_goal-requires-2
+write_both-write_goal-requires-2 t c = (omega (arith, c.decreases), tt)
+
+pub write_both-shape_of-room : goal.write_both-shape_of-room
+write_both-shape_of-room t c = c.write_goal-2.auto.1.1.1.0 ∙ c.write_goal.auto.1.1.1.0
+
+pub write_both-shape_of-strip : goal.write_both-shape_of-strip
+write_both-shape_of-strip t c = c.close.auto.0 ∙ (pathing.lent_length c.cut-from-2.result c.behind-a.result.at (put_mid c.cut-from.result (length c.put-m.new.0 - c.cut-from.result) c.put-m.new.0 c.write_goal.new.1.1.1.1.0) c.write_goal-2.new.1.1.1.1.0 c.cut-from-2.ensures c.write_goal-2.auto.1.1.1.1.0 ∙ (pathing.lent_length c.cut-from.result c.put-m.result c.put-m.new.0 c.write_goal.new.1.1.1.1.0 c.cut-from.ensures c.write_goal.auto.1.1.1.1.0 ∙ c.put-m.auto.0))
+
+pub write_both-returns : goal.write_both-returns
+write_both-returns t c = writing.both-drawn c.past_part.ensures c.in-Next.is c.put-m.ensures c.within.ensures (pathing.writing-lent c.cut-from.ensures c.behind-a.ensures c.write_goal.ensures) c.write_goal.auto.1.1.1.0 c.within-2.ensures (pathing.writing-lent c.cut-from-2.ensures c.behind-b.ensures c.write_goal-2.ensures) c.beside.ensures c.close.ensures
+
+pub write_either-returns-in_default : goal.write_either-returns-in_default
+write_either-returns-in_default t c = writing.either-lost c.past_part.ensures c.in_default.is
+
+pub write_either-write_goal-requires : goal.write_either-write_goal-requires
+write_either-write_goal-requires t c = (omega (arith, c.decreases), tt)
+
+pub write_either-shape_of-room-then-prove_goal : goal.write_either-shape_of-room-then-prove_goal
+write_either-shape_of-room-then-prove_goal t c = c.write_goal.auto.1.1.1.0 ∙ c.prove_goal.auto.1.1.1.0
+
+pub write_either-returns-then-prove_goal : goal.write_either-returns-then-prove_goal
+write_either-returns-then-prove_goal t c = writing.either_left c.within.ensures c.prove_goal.ensures c.if-prove_goal.true c.prove_goal.auto.1.1.1.0 c.put-m.ensures c.within-then-prove_goal.ensures (pathing.writing-lent c.cut-from.ensures c.behind-a.ensures c.write_goal.ensures) c.close.ensures
+
+pub write_either-write_goal-requires-2 : goal.write_either-write_goal-requires-2
+write_either-write_goal-requires-2 t c = (omega (arith, c.decreases), tt)
+
+pub write_either-shape_of-room : goal.write_either-shape_of-room
+write_either-shape_of-room t c = c.write_goal-2.auto.1.1.1.0 ∙ c.prove_goal.auto.1.1.1.0
+
+pub write_either-returns : goal.write_either-returns
+write_either-returns t c = writing.either-right c.past_part.ensures c.in-Next.is c.within.ensures c.prove_goal.ensures c.if-prove_goal.false c.prove_goal.auto.1.1.1.0 c.put-m-2.ensures c.within-2.ensures (pathing.writing-lent c.cut-from-2.ensures c.behind-a-2.ensures c.write_goal-2.ensures) c.close-2.ensures
+
+pub write_goal-returns-then-height-eq0 : goal.write_goal-returns-then-height-eq0
+write_goal-returns-then-height-eq0 t c = writing.no-height c.args.height c.if-height-eq0.true
+
+pub write_goal-returns-in-Top : goal.write_goal-returns-in-Top
+write_goal-returns-in-Top t c = let x = c.args in
+    writing.by_word x.height W.Top c.word_there.result c.if-height-eq0.false c.word_there.ensures c.in-Top.is (writing.top-drawn (x.height - 1) c.top.ensures)
+
+pub write_goal-returns-in-Atom : goal.write_goal-returns-in-Atom
+write_goal-returns-in-Atom t c = let x = c.args in
+    writing.by_word x.height W.Atom c.word_there.result c.if-height-eq0.false c.word_there.ensures c.in-Atom.is c.write_use.ensures
+
+pub write_goal-returns-in-And : goal.write_goal-returns-in-And
+write_goal-returns-in-And t c = let x = c.args in
+    writing.by_word x.height W.And c.word_there.result c.if-height-eq0.false c.word_there.ensures c.in-And.is c.write_both.ensures
+
+pub write_goal-returns-in-Or : goal.write_goal-returns-in-Or
+write_goal-returns-in-Or t c = let x = c.args in
+    writing.by_word x.height W.Or c.word_there.result c.if-height-eq0.false c.word_there.ensures c.in-Or.is c.write_either.ensures
+
+pub write_goal-returns-in-Some : goal.write_goal-returns-in-Some
+write_goal-returns-in-Some t c = let x = c.args in
+    writing.by_word x.height W.Some c.word_there.result c.if-height-eq0.false c.word_there.ensures c.in-Some.is c.write_some.ensures
+
+pub write_goal-returns-in-All : goal.write_goal-returns-in-All
+write_goal-returns-in-All t c = let x = c.args in
+    writing.by_word x.height W.All c.word_there.result c.if-height-eq0.false c.word_there.ensures c.in-All.is c.write_all.ensures
+
+pub write_goal-returns-in-Imp : goal.write_goal-returns-in-Imp
+write_goal-returns-in-Imp t c = let x = c.args in
+    writing.by_word x.height W.Imp c.word_there.result c.if-height-eq0.false c.word_there.ensures c.in-Imp.is c.write_under.ensures
+
+pub write_goal-returns-in_default : goal.write_goal-returns-in_default
+unfolding rows rank
+write_goal-returns-in_default t c = let k = c.word_there.result in
+    writing.by-other c.args.height k c.word_there.ensures (no_row K.Goal k c.in_default.in_default-own.keys8 refl)
+
+pub write_path-returns-then-nest-eq0 : goal.write_path-returns-then-nest-eq0
+write_path-returns-then-nest-eq0 t c = pathing.no-nest c.args.nest c.if-nest-eq0.true
+
+pub write_path-returns-in-Atom : goal.write_path-returns-in-Atom
+write_path-returns-in-Atom t c = let x = c.args in
+    pathing.by_word x.nest W.Atom c.word_there.result c.if-nest-eq0.false c.word_there.ensures c.in-Atom.is (pathing.by-any (x.nest - 1) W.Atom (pathing.atom-ends (x.nest - 1) c.shut.ensures))
+
+pub write_path-returns-in-Imp : goal.write_path-returns-in-Imp
+write_path-returns-in-Imp t c = let x = c.args in
+    pathing.by_word x.nest W.Imp c.word_there.result c.if-nest-eq0.false c.word_there.ensures c.in-Imp.is (pathing.by-any (x.nest - 1) W.Imp (c.write_body.ensures (x.nest - 1)))
+
+pub write_path-returns-in-And : goal.write_path-returns-in-And
+write_path-returns-in-And t c = let x = c.args in
+    pathing.by_word x.nest W.And c.word_there.result c.if-nest-eq0.false c.word_there.ensures c.in-And.is (pathing.by-any (x.nest - 1) W.And c.path_and.ensures)
+
+pub write_path-returns-in-All : goal.write_path-returns-in-All
+write_path-returns-in-All t c = let x = c.args in
+    pathing.by_word x.nest W.All c.word_there.result c.if-nest-eq0.false c.word_there.ensures c.in-All.is c.path_all.ensures
+
+pub write_path-returns-in_default : goal.write_path-returns-in_default
+unfolding rows rank
+write_path-returns-in_default t c = let k = c.word_there.result in
+    pathing.by-other c.args.nest k c.word_there.ensures (no_row K.Clause k c.in_default.in_default-own.keys5 refl)
+
+pub write_some-write_goal-requires : goal.write_some-write_goal-requires
+write_some-write_goal-requires t c = (omega (arith, c.decreases), tt)
+
+pub write_some-shape_of-room : goal.write_some-shape_of-room
+write_some-shape_of-room t c = c.write_goal.auto.1.1.1.0 ∙ (c.push.auto.0 ∙ c.first_with-i.auto.1.1.1.0)
+
+pub write_some-shape_of-strip : goal.write_some-shape_of-strip
+write_some-shape_of-strip t c = c.close.auto.0 ∙ (pathing.lent_length c.cut-from.result c.put_number-m.result c.put_number-m.new.0 c.write_goal.new.1.1.1.1.0 c.cut-from.ensures c.write_goal.auto.1.1.1.1.0 ∙ (c.put_number-m.auto.0 ∙ c.put-m.auto.0))
+
+pub write_some-returns : goal.write_some-returns
+write_some-returns t c = writing.some-drawn c.first_with-i.result c.first_with-i.ensures c.first_with-i.auto.1.1.1.0 c.put-m.ensures c.put_number-m.ensures c.bound.ensures (writing.writing-from c.push.ensures (pathing.writing-lent c.cut-from.ensures c.behind-a.ensures c.write_goal.ensures)) c.close.ensures
+
+pub write_under-returns-then-left-eq0 : goal.write_under-returns-then-left-eq0
+write_under-returns-then-left-eq0 t c = writing.under-flat c.if-left-eq0.true
+
+pub write_under-returns-in_default : goal.write_under-returns-in_default
+write_under-returns-in_default t c = writing.under-lost c.past_part.ensures c.in_default.is
+
+pub write_under-write_goal-requires : goal.write_under-write_goal-requires
+write_under-write_goal-requires t c = (omega (arith, c.decreases), tt)
+
+pub write_under-shape_of-room : goal.write_under-shape_of-room
+write_under-shape_of-room t c = c.write_goal.auto.1.1.1.0 ∙ (c.forget.auto.0 ∙ c.suppose.auto.0)
+
+pub write_under-returns : goal.write_under-returns
+write_under-returns t c = writing.under-drawn c.if-left-eq0.false c.past_part.ensures c.in-Next.is c.further.ensures c.suppose.ensures c.plus.ensures c.forget.ensures.0 c.forget.ensures.1 c.put-m.ensures c.supposes.ensures (pathing.writing-lent c.cut-from.ensures c.behind-a.ensures c.write_goal.ensures) c.close.ensures
+
+pub write_use-returns-in_default : goal.write_use-returns-in_default
+write_use-returns-in_default t c = pathing.use-none c.first_clause-k.result c.first_clause-k.ensures.0 c.first_clause-k.auto.1.1.1.0 c.open_clause.ensures c.in_default.is
+
+pub write_use-write_path-requires : goal.write_use-write_path-requires
+write_use-write_path-requires t c = (omega (arith, c.decreases), tt)
+
+pub write_use-shape_of-room : goal.write_use-shape_of-room
+write_use-shape_of-room t c = c.write_path.auto.1.1.1.0 ∙ (c.open_clause.auto.0 ∙ c.first_clause-k.auto.1.1.1.0)
+
+pub write_use-shape_of-strip : goal.write_use-shape_of-strip
+write_use-shape_of-strip t c = c.close.auto.0 ∙ (pathing.lent_length c.cut-from.result c.put-m-2.result c.put-m-2.new.0 c.write_path.new.1.1.1.1.0 c.cut-from.ensures c.write_path.auto.1.1.1.1.0 ∙ (c.put-m-2.auto.0 ∙ (c.put_number-m.auto.0 ∙ c.put-m.auto.0)))
+
+pub write_use-returns : goal.write_use-returns
+write_use-returns t c = pathing.use-drawn c.first_clause-k.result c.first_clause-k.ensures.0 c.first_clause-k.auto.1.1.1.0 c.first_clause-k.ensures.1 c.open_clause.ensures c.in-Clause.is c.is_plain-located.ensures c.put-m.ensures c.put_number-m.ensures c.put-m-2.ensures (pathing.pathing-lent c.cut-from.ensures c.behind-a.ensures c.write_path.ensures) c.close.ensures
