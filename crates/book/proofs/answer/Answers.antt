@@ -6,14 +6,6 @@ use lib.Seq.{length-take-le}
 use Rattle.tptp.proofs.TrueLaws.{written-inside}
 use Rattle.book.proofs.answer.Goals as goal
 
--- LEFT
-slice-aggregate-say : tie.Need-slice-aggregate-say
-slice-aggregate-say c = search rules
-
--- LEFT
-slice-aggregate-say-2 : tie.Need-slice-aggregate-say-2
-slice-aggregate-say-2 c = search rules
-
 pub slice_bounds-save-end : goal.slice_bounds-save-end
 slice_bounds-save-end c = let k = c.tptp in let l = written-inside k.ensures c.in-Written.r c.in-Written.g c.in-Written.is in let q = k.auto.1.0 in omega (arith, l.0)
 

@@ -5,10 +5,6 @@ use native.Mathlib.Omega.{arith}
 use borrow.Author.Rules.{rules}
 use Rattle.packet_cases.proofs.case.Goals as goal
 
--- LEFT
-slice-aggregate-is-word : tie.Need-slice-aggregate-is-word
-slice-aggregate-is-word c = search rules
-
 pub returns : goal.returns
 returns c =
     let n = length c.args.s.now in

@@ -6,14 +6,6 @@ use lib.Seq.{length-take-le}
 use Rattle.proposal.proofs.InsideLaws.{found_inside}
 use Rattle.search.proofs.answer.Goals as goal
 
--- LEFT
-slice-aggregate-say : tie.Need-slice-aggregate-say
-slice-aggregate-say c = search rules
-
--- LEFT
-slice-aggregate-say-2 : tie.Need-slice-aggregate-say-2
-slice-aggregate-say-2 c = search rules
-
 pub slice_bounds-save-end : goal.slice_bounds-save-end
 slice_bounds-save-end c = let k = c.propose in let l = found_inside k.ensures c.in-Found.is in let e = k.auto.1.1.1.1.0 in omega arith
 

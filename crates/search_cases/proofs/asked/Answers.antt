@@ -5,17 +5,5 @@ use native.Mathlib.Omega.{arith}
 use borrow.Author.Rules.{rules}
 use Rattle.search_cases.proofs.asked.Goals as goal
 
--- LEFT
-slice-aggregate-say : tie.Need-slice-aggregate-say
-slice-aggregate-say c = search rules
-
--- LEFT
-slice-aggregate-say-2 : tie.Need-slice-aggregate-say-2
-slice-aggregate-say-2 c = search rules
-
--- LEFT
-slice-aggregate-say-3 : tie.Need-slice-aggregate-say-3
-slice-aggregate-say-3 c = search rules
-
 pub slice_bounds-searched-end : goal.slice_bounds-searched-end
 slice_bounds-searched-end c = let e = c.blank-strip.ensures in let l = c.if-n-gt20000.false in sym (length-take-le c.in-Is-size.n c.blank-strip.result (omega arith))

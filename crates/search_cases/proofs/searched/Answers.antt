@@ -6,14 +6,6 @@ use native.Mathlib.Omega.{arith}
 use borrow.Author.Rules.{rules}
 use Rattle.search_cases.proofs.searched.Goals as goal
 
--- LEFT
-slice-aggregate-say : tie.Need-slice-aggregate-say
-slice-aggregate-say c = search rules
-
--- LEFT
-slice-aggregate-say-2 : tie.Need-slice-aggregate-say-2
-slice-aggregate-say-2 c = search rules
-
 pub slice_bounds-found-end : goal.slice_bounds-found-end
 slice_bounds-found-end c = let k = c.propose in let l = found_inside k.ensures c.in-Found.is in let e = k.auto.1.1.1.1.0 in omega arith
 

@@ -6,10 +6,6 @@ use native.Mathlib.Omega.{arith}
 use borrow.Author.Rules.{rules}
 use Rattle.tptp_cases.proofs.read.Goals as goal
 
--- LEFT
-slice-aggregate-say : tie.Need-slice-aggregate-say
-slice-aggregate-say c = search rules
-
 pub slice_bounds-written-end : goal.slice_bounds-written-end
 slice_bounds-written-end c = let k = c.tptp in let l = written-inside k.ensures c.in-Written.r c.in-Written.g c.in-Written.is in let q = k.auto.1.0 in omega (arith, l.0)
 

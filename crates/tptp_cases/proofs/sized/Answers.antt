@@ -5,14 +5,6 @@ use lib.Seq.{length-take-le}
 use borrow.Author.Rules.{rules}
 use Rattle.tptp_cases.proofs.sized.Goals as goal
 
--- LEFT
-slice-aggregate-say : tie.Need-slice-aggregate-say
-slice-aggregate-say c = search rules
-
--- LEFT
-slice-aggregate-say-2 : tie.Need-slice-aggregate-say-2
-slice-aggregate-say-2 c = search rules
-
 pub slice_bounds-read-end : goal.slice_bounds-read-end
 slice_bounds-read-end c = let e = c.blank-rules.ensures in let l = c.if-r-gt20000.false in sym (length-take-le c.args.r c.blank-rules.result (omega arith))
 

@@ -3,10 +3,5 @@ use Rattle.drawing.proofs.DrawLaws.{rest-none}
 use borrow.Author.Rules.{rules}
 use Rattle.drawing.proofs.put.shut.Goals as goal
 
--- LEFT
--- src/put.rt:119:28
-slice-aggregate-put : tie.Need-slice-aggregate-put
-slice-aggregate-put c = search rules
-
 pub returns : goal.returns
 returns c = rest-none c.put-m.ensures c.nothing.ensures

@@ -3,10 +3,5 @@ use Rattle.drawing.proofs.DrawLaws.{draws-top}
 use borrow.Author.Rules.{rules}
 use Rattle.drawing.proofs.put.top.Goals as goal
 
--- LEFT
--- src/put.rt:127:28
-slice-aggregate-put : tie.Need-slice-aggregate-put
-slice-aggregate-put c = search rules
-
 pub returns : goal.returns
 returns c = draws-top c.put-m.ensures c.nothing.ensures c.close.ensures

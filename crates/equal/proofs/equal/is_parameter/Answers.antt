@@ -5,11 +5,6 @@ use native.Mathlib.Omega.{arith}
 use borrow.Author.Rules.{rules}
 use Rattle.equal.proofs.equal.is_parameter.Goals as goal
 
--- LEFT
--- src/equal.rt:97:23
-slice-aggregate-is-word : tie.Need-slice-aggregate-is-word
-slice-aggregate-is-word c = search rules
-
 pub returns-then-not-is_word : goal.returns-then-not-is_word
 returns-then-not-is_word c = let x = c.args in
     no-parameter x.rules.now x.goal.now x.terms.now x.rules.now x.k c.part-s.ensures c.is_word.ensures (not-true c.is_word.result c.if-not-is_word.true-raw)

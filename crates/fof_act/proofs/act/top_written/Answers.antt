@@ -3,10 +3,5 @@ use Rattle.fof_pass.proofs.InkLaws.{inks-then}
 use borrow.Author.Rules.{rules}
 use Rattle.fof_act.proofs.act.top_written.Goals as goal
 
--- LEFT
--- src/act.rt:84:28
-slice-aggregate-head : tie.Need-slice-aggregate-head
-slice-aggregate-head c = search rules
-
 pub returns : goal.returns
 returns c = inks-then c.head-p.ensures c.end.ensures

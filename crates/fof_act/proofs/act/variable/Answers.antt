@@ -6,11 +6,6 @@ use Rattle.fof_act.proofs.ActLaws.{variable-free, variable-bound}
 use borrow.Author.Rules.{rules}
 use Rattle.fof_act.proofs.act.variable.Goals as goal
 
--- LEFT
--- src/act.rt:73:36
-slice-aggregate-head : tie.Need-slice-aggregate-head
-slice-aggregate-head c = search rules
-
 pub returns-in-Free : goal.returns-in-Free
 returns-in-Free c = let a = c.args in λ sc h. variable-free sc (between a.text.now a.a.start a.a.end) c.number_of.result a.pen a.buf.now (record { ok = false; pen = a.pen }) c.cut.ensures (c.number_of.ensures sc h) c.in-Free.is refl
 

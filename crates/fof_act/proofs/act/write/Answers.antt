@@ -6,21 +6,6 @@ use Rattle.fof_act.proofs.ActLaws.{write-plain, write-named, write-variable}
 use borrow.Author.Rules.{rules}
 use Rattle.fof_act.proofs.act.write.Goals as goal
 
--- LEFT
--- src/act.rt:123:48
-slice-aggregate-head : tie.Need-slice-aggregate-head
-slice-aggregate-head c = search rules
-
--- LEFT
--- src/act.rt:126:50
-slice-aggregate-named : tie.Need-slice-aggregate-named
-slice-aggregate-named c = search rules
-
--- LEFT
--- src/act.rt:127:54
-slice-aggregate-named-2 : tie.Need-slice-aggregate-named-2
-slice-aggregate-named-2 c = search rules
-
 pub returns-in-Nothing : goal.returns-in-Nothing
 returns-in-Nothing c = let a = c.args in write-plain a.text.now a.names.now a.bound a.pen a.a c.in-Nothing.is (λ _ _. refl) (inks-none a.pen a.buf.now) c.done.ensures
 

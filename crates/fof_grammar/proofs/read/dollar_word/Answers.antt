@@ -6,21 +6,6 @@ use Rattle.fof_productions.specs.Terminal.{same_octets}
 use Rattle.fof_grammar.proofs.ReadLaws.{said, by-dollar}
 use Rattle.fof_grammar.proofs.read.dollar_word.Goals as goal
 
--- LEFT
--- src/read.rt:28:16
-slice-aggregate-same : tie.Need-slice-aggregate-same
-slice-aggregate-same c = search rules
-
--- LEFT
--- src/read.rt:31:16
-slice-aggregate-same-2 : tie.Need-slice-aggregate-same-2
-slice-aggregate-same-2 c = search rules
-
--- LEFT
--- src/read.rt:34:16
-slice-aggregate-same-3 : tie.Need-slice-aggregate-same-3
-slice-aggregate-same-3 c = search rules
-
 pub returns-then-same : goal.returns-then-same
 returns-then-same c = by-dollar c.args.w.now true (same_octets c.args.w.now (octets "$cnf")) (same_octets c.args.w.now (octets "$fot")) (said c.args.w.now (octets "$fof") c.same.result true c.same.ensures c.if-same.true) refl refl
 

@@ -4,11 +4,6 @@ use Rattle.basics.specs.Text.{octets}
 use Rattle.fof_grammar.proofs.ReadLaws.{said, by-lower}
 use Rattle.fof_grammar.proofs.read.lower_word.Goals as goal
 
--- LEFT
--- src/read.rt:22:16
-slice-aggregate-same : tie.Need-slice-aggregate-same
-slice-aggregate-same c = search rules
-
 pub returns-then-same : goal.returns-then-same
 returns-then-same c = by-lower c.args.w.now true (said c.args.w.now (octets "fof") c.same.result true c.same.ensures c.if-same.true)
 

@@ -8,11 +8,6 @@ use borrow.Author.Tests.{not-true, not-false}
 use borrow.Author.Rules.{rules}
 use Rattle.fof_lines.proofs.line.opening.Goals as goal
 
--- LEFT
--- src/line.rt:30:41
-slice-aggregate-same : tie.Need-slice-aggregate-same
-slice-aggregate-same c = search rules
-
 pub returns-then-a-ne0 : goal.returns-then-a-ne0
 returns-then-a-ne0 c = asked-none c.args.text.now c.args.at c.sign_ahead-a.result c.sign_ahead-a.ensures (λ w. same_name w (octets "fof")) 3 c.if-a-ne0.true
 

@@ -8,16 +8,6 @@ use mathlib.Core.Path.{refl}
 use borrow.Author.Rules.{rules}
 use Rattle.fof_lines.proofs.line.role_ahead.Goals as goal
 
--- LEFT
--- src/line.rt:78:40
-slice-aggregate-same : tie.Need-slice-aggregate-same
-slice-aggregate-same c = search rules
-
--- LEFT
--- src/line.rt:84:40
-slice-aggregate-same-2 : tie.Need-slice-aggregate-same-2
-slice-aggregate-same-2 c = search rules
-
 pub returns-then-a-ne0 : goal.returns-then-a-ne0
 returns-then-a-ne0 c = let x = c.args in role-none x.text.now x.at c.sign_ahead-a.result c.sign_ahead-a.ensures (record { role = R.None; at = x.at }) c.if-a-ne0.true refl
 

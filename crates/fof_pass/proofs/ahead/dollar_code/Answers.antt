@@ -4,11 +4,6 @@ use Rattle.fof_pass.proofs.AheadLaws.{dollar-hit, dollar-miss}
 use borrow.Author.Rules.{rules}
 use Rattle.fof_pass.proofs.ahead.dollar_code.Goals as goal
 
--- LEFT
--- src/ahead.rt:39:36
-slice-aggregate-same : tie.Need-slice-aggregate-same
-slice-aggregate-same c = search rules
-
 pub returns-then-same : goal.returns-then-same
 returns-then-same c = let a = c.args in dollar-hit (between a.text.now a.start a.end) c.cut.ensures c.if-same.true c.same.ensures
 

@@ -13,11 +13,6 @@ use borrow.Author.Rules.{rules}
 use Prim.Native.Nat.{ℕ, ◌<◌, ◌+◌, ◌-◌, ◌*◌}
 use Rattle.held.proofs.variables.+meets_meets_member.Goals as goal
 
--- LEFT
--- src/variables.rt:148:32
-meets-slice-aggregate-is-word : (t : ℕ) → meets-lts.Need-slice-aggregate-is-word (opens-reads.Asked, opens-reads.Learnt, past-reads.Asked, past-reads.Learnt, ended-reads.Asked, ended-reads.Learnt, plus-reads.Asked, plus-reads.Learnt, is-word-reads.Asked, is-word-reads.Learnt, meets-variable-reads.Asked, meets-variable-reads.Learnt, around-reads.Asked, around-reads.Learnt, closes-reads.Asked, closes-reads.Learnt, meets-member-below t, meets-member.Post, either-reads.Asked, either-reads.Learnt) (meets_at t) meets.Post meets-Inv-loop meets-μ-loop
-meets-slice-aggregate-is-word t c = search rules
-
 pub meets-returns-then-not-opens : goal.meets-returns-then-not-opens
 meets-returns-then-not-opens t c = let x = c.args in
     let bs = bindings_at x.room.now x.x in

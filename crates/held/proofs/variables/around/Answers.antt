@@ -4,16 +4,6 @@ use native.Mathlib.Omega.{arith}
 use borrow.Author.Rules.{rules}
 use Rattle.held.proofs.variables.around.Goals as goal
 
--- LEFT
--- src/variables.rt:75:32
-slice-aggregate-is-word : tie.Need-slice-aggregate-is-word
-slice-aggregate-is-word c = search rules
-
--- LEFT
--- src/variables.rt:78:32
-slice-aggregate-is-word-2 : tie.Need-slice-aggregate-is-word-2
-slice-aggregate-is-word-2 c = search rules
-
 pub returns-then-is_word : goal.returns-then-is_word
 returns-then-is_word c = let x = c.args in
     around-all x.s.now x.at (omega arith) x.depth c.plus.ensures c.is_word.ensures c.if-is_word.true c.plus-then-is_word.ensures

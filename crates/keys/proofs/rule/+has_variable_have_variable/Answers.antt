@@ -7,10 +7,6 @@ use borrow.Author.Rules.{rules}
 use Prim.Native.Nat.{ℕ, ◌<◌, ◌+◌, ◌-◌, ◌*◌}
 use Rattle.keys.proofs.rule.+has_variable_have_variable.Goals as goal
 
--- LEFT
-has-variable-slice-aggregate-is-word : (t : ℕ) → has-variable-lts.Need-slice-aggregate-is-word (from-reads.Asked, from-reads.Learnt, is-word-reads.Asked, is-word-reads.Learnt, past-reads.Asked, past-reads.Learnt, have-variable-below t, have-variable.Post) (has-variable-at t) has-variable.Post
-has-variable-slice-aggregate-is-word t c = search rules
-
 pub has_variable-returns-then-nest-eq0 : goal.has_variable-returns-then-nest-eq0
 has_variable-returns-then-nest-eq0 t c = let x = c.args in has-never x.s.now x.at x.nest c.if-nest-eq0.true
 

@@ -3,14 +3,6 @@ use Rattle.keys.proofs.WalkLaws.{begins-variable, begins-parameter, begins-lost,
 use borrow.Author.Rules.{rules}
 use Rattle.keys.proofs.term.begins.Goals as goal
 
--- LEFT
-slice-aggregate-is-word : tie.Need-slice-aggregate-is-word
-slice-aggregate-is-word c = search rules
-
--- LEFT
-slice-aggregate-is-word-2 : tie.Need-slice-aggregate-is-word-2
-slice-aggregate-is-word-2 c = search rules
-
 pub returns-then-is_word : goal.returns-then-is_word
 returns-then-is_word c = let x = c.args in
     begins-variable x.t.now x.room.now x.x {r = c.is_word.result} c.is_word.ensures c.if-is_word.true c.variable_key.ensures

@@ -4,14 +4,6 @@ use Rattle.reader.proofs.TextLaws.{step-l, step-r, step-number}
 use borrow.Author.Rules.{rules}
 use Rattle.reader.proofs.shape.is_step.Goals as goal
 
--- LEFT
-slice-aggregate-same : tie.Need-slice-aggregate-same
-slice-aggregate-same c = search rules
-
--- LEFT
-slice-aggregate-same-2 : tie.Need-slice-aggregate-same-2
-slice-aggregate-same-2 c = search rules
-
 pub returns-then-same : goal.returns-then-same
 returns-then-same c = step-l c.args.w.now c.same.result c.if-same.true c.same.ensures
 

@@ -4,11 +4,6 @@ use native.Mathlib.Omega.{arith}
 use borrow.Author.Rules.{rules}
 use Rattle.start.proofs.table.begins.Goals as goal
 
--- LEFT
--- src/table.rt:60:22
-slice-aggregate-is-word : tie.Need-slice-aggregate-is-word
-slice-aggregate-is-word c = search rules
-
 pub returns-then-is_word : goal.returns-then-is_word
 returns-then-is_word c = let x = c.args in
     begins-parameter x.s.now x.at c.from-t.ensures c.number_after.result {r = c.is_word.result} c.is_word.ensures c.if-is_word.true c.number_after.ensures

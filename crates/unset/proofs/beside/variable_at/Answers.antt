@@ -4,10 +4,6 @@ use Rattle.unset.proofs.HeadLaws.{variable-is}
 use borrow.Author.Rules.{rules}
 use Rattle.unset.proofs.beside.variable_at.Goals as goal
 
--- LEFT
-slice-aggregate-is-word : tie.Need-slice-aggregate-is-word
-slice-aggregate-is-word c = search rules
-
 pub returns-then-not-is_word : goal.returns-then-not-is_word
 returns-then-not-is_word c = λ t around S l few ok. tt
 

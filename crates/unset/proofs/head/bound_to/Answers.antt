@@ -6,11 +6,6 @@ use native.Mathlib.Omega.{arith}
 use borrow.Author.Rules.{rules}
 use Rattle.unset.proofs.head.bound_to.Goals as goal
 
--- LEFT
--- src/head.rt:159:23
-slice-aggregate-is-word : tie.Need-slice-aggregate-is-word
-slice-aggregate-is-word c = search rules
-
 pub returns-then-not-is_word : goal.returns-then-not-is_word
 returns-then-not-is_word c = let x = c.args in
     let f = files_of x.rules.now x.goal.now x.terms.now in

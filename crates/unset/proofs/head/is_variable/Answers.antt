@@ -5,11 +5,6 @@ use native.Mathlib.Omega.{arith}
 use borrow.Author.Rules.{rules}
 use Rattle.unset.proofs.head.is_variable.Goals as goal
 
--- LEFT
--- src/head.rt:199:33
-slice-aggregate-is-word : tie.Need-slice-aggregate-is-word
-slice-aggregate-is-word c = search rules
-
 pub returns-then-not-is_word : goal.returns-then-not-is_word
 returns-then-not-is_word c = let x = c.args in
     variable-none x.s.now x.at x.v c.plus.ensures c.is_word.ensures (not-true c.is_word.result c.if-not-is_word.true-raw)

@@ -8,16 +8,6 @@ use native.Mathlib.Omega.{arith}
 use borrow.Author.Rules.{rules}
 use Rattle.uses.proofs.uses.at_and.Goals as goal
 
--- LEFT
--- src/uses.rt:88:27
-slice-aggregate-is-word : tie.Need-slice-aggregate-is-word
-slice-aggregate-is-word c = search rules
-
--- LEFT
--- src/uses.rt:91:28
-slice-aggregate-is-word-2 : tie.Need-slice-aggregate-is-word-2
-slice-aggregate-is-word-2 c = search rules
-
 pub returns-then-is_word : goal.returns-then-is_word
 returns-then-is_word c = let x = c.args in
     (tt, λ p d s path k l h e. and_left x.clause.now x.strip.now x.at x.next p d path s k h e (told-yes c.if-is_word.true c.is_word.ensures))

@@ -12,11 +12,6 @@ use native.Mathlib.Omega.{arith}
 use borrow.Author.Rules.{rules}
 use Rattle.uses.proofs.uses.enter_use.Goals as goal
 
--- LEFT
--- src/uses.rt:375:23
-slice-aggregate-is-word : tie.Need-slice-aggregate-is-word
-slice-aggregate-is-word c = search rules
-
 pub returns-in_default : goal.returns-in_default
 returns-in_default c = let x = c.args in
     λ ds us P o d bs g e ready.

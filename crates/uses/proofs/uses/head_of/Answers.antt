@@ -9,16 +9,6 @@ use native.Mathlib.Omega.{arith}
 use borrow.Author.Rules.{rules}
 use Rattle.uses.proofs.uses.head_of.Goals as goal
 
--- LEFT
--- src/uses.rt:235:22
-slice-aggregate-is-word : tie.Need-slice-aggregate-is-word
-slice-aggregate-is-word c = search rules
-
--- LEFT
--- src/uses.rt:238:23
-slice-aggregate-is-word-2 : tie.Need-slice-aggregate-is-word-2
-slice-aggregate-is-word-2 c = search rules
-
 pub returns-then-is_word : goal.returns-then-is_word
 returns-then-is_word c = let x = c.args in
     λ e k l. head-fact (file_of x.rules.now x.goal.now x.terms.now x.x.source) _ x.x c.part-s.ensures e (told-yes c.if-is_word.true c.is_word.ensures) k

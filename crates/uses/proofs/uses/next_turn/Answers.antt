@@ -6,16 +6,6 @@ use native.Mathlib.Omega.{arith}
 use borrow.Author.Rules.{rules}
 use Rattle.uses.proofs.uses.next_turn.Goals as goal
 
--- LEFT
--- src/uses.rt:122:27
-slice-aggregate-is-word : tie.Need-slice-aggregate-is-word
-slice-aggregate-is-word c = search rules
-
--- LEFT
--- src/uses.rt:125:27
-slice-aggregate-is-word-2 : tie.Need-slice-aggregate-is-word-2
-slice-aggregate-is-word-2 c = search rules
-
 pub returns-then-closes : goal.returns-then-closes
 returns-then-closes c = let x = c.args in
     (tt, λ d path k l h. turn-ended x.strip.now x.at path (closes-yes c.closes.ensures c.if-closes.true) h)

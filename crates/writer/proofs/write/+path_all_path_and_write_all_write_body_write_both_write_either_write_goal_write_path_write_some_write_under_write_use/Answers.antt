@@ -20,64 +20,9 @@ use Rattle.writer.proofs.write.+path_all_path_and_write_all_write_body_write_bot
 use Rattle.writer.proofs.write.+path_all_path_and_write_all_write_body_write_both_write_either_write_goal_write_path_write_some_write_under_write_use.Goals as goal
 
 -- LEFT
--- src/write.rt:418:32
-path-and-slice-aggregate-put : (t : ℕ) → path-and-lts.Need-slice-aggregate-put (past-part-reads.Asked, past-part-reads.Learnt, nothing-reads.Asked, nothing-reads.Learnt, further-reads.Asked, further-reads.Learnt, through-reads.Asked, through-reads.Learnt, put_reads.Asked, put_reads.Learnt, cut-reads.Asked, cut-reads.Learnt, write-path-below t, write-path.Post, behind-reads.Asked, behind-reads.Learnt) (path-and-at t) path-and.Post
-path-and-slice-aggregate-put t c = search rules
-
--- LEFT
--- src/write.rt:437:28
-path-and-slice-aggregate-put-2 : (t : ℕ) → path-and-lts.Need-slice-aggregate-put-2 (past-part-reads.Asked, past-part-reads.Learnt, nothing-reads.Asked, nothing-reads.Learnt, further-reads.Asked, further-reads.Learnt, through-reads.Asked, through-reads.Learnt, put_reads.Asked, put_reads.Learnt, cut-reads.Asked, cut-reads.Learnt, write-path-below t, write-path.Post, behind-reads.Asked, behind-reads.Learnt) (path-and-at t) path-and.Post
-path-and-slice-aggregate-put-2 t c = search rules
-
--- LEFT
 -- src/write.rt:223:42
 write-all-cast-t18 : (t : ℕ) → write-all-lts.Need-overflow-cast-t18 (nothing-reads.Asked, nothing-reads.Learnt, push-reads.Asked, push-reads.Learnt, put_reads.Asked, put_reads.Learnt, cut-reads.Asked, cut-reads.Learnt, bound-reads.Asked, bound-reads.Learnt, write-goal-below t, write-goal.Post, behind-reads.Asked, behind-reads.Learnt, close-reads.Asked, close-reads.Learnt) (write-all-at t) write-all.Post
 write-all-cast-t18 t c = search rules
-
--- LEFT
--- src/write.rt:224:28
-write-all-slice-aggregate-put : (t : ℕ) → write-all-lts.Need-slice-aggregate-put (nothing-reads.Asked, nothing-reads.Learnt, push-reads.Asked, push-reads.Learnt, put_reads.Asked, put_reads.Learnt, cut-reads.Asked, cut-reads.Learnt, bound-reads.Asked, bound-reads.Learnt, write-goal-below t, write-goal.Post, behind-reads.Asked, behind-reads.Learnt, close-reads.Asked, close-reads.Learnt) (write-all-at t) write-all.Post
-write-all-slice-aggregate-put t c = search rules
-
--- LEFT
--- src/write.rt:376:28
-write-body-slice-aggregate-put : (t : ℕ) → write-body-lts.Need-slice-aggregate-put (put_reads.Asked, put_reads.Learnt, further-reads.Asked, further-reads.Learnt, plus-reads.Asked, plus-reads.Learnt, cut-reads.Asked, cut-reads.Learnt, write-goal-below t, write-goal.Post, behind-reads.Asked, behind-reads.Learnt) (write-body-at t) write-body.Post
-write-body-slice-aggregate-put t c = search rules
-
--- LEFT
--- src/write.rt:88:28
-write-both-slice-aggregate-put : (t : ℕ) → write-both-lts.Need-slice-aggregate-put (past-part-reads.Asked, past-part-reads.Learnt, nothing-reads.Asked, nothing-reads.Learnt, put_reads.Asked, put_reads.Learnt, cut-reads.Asked, cut-reads.Learnt, within-reads.Asked, within-reads.Learnt, write-goal-below t, write-goal.Post, behind-reads.Asked, behind-reads.Learnt, beside-reads.Asked, beside-reads.Learnt, close-reads.Asked, close-reads.Learnt) (write-both-at t) write-both.Post
-write-both-slice-aggregate-put t c = search rules
-
--- LEFT
--- src/write.rt:137:32
-write-either-slice-aggregate-put : (t : ℕ) → write-either-lts.Need-slice-aggregate-put (past-part-reads.Asked, past-part-reads.Learnt, nothing-reads.Asked, nothing-reads.Learnt, within-reads.Asked, within-reads.Learnt, prove-goal-reads.Asked, prove-goal-reads.Learnt, put_reads.Asked, put_reads.Learnt, cut-reads.Asked, cut-reads.Learnt, write-goal-below t, write-goal.Post, behind-reads.Asked, behind-reads.Learnt, close-reads.Asked, close-reads.Learnt) (write-either-at t) write-either.Post
-write-either-slice-aggregate-put t c = search rules
-
--- LEFT
--- src/write.rt:154:28
-write-either-slice-aggregate-put-2 : (t : ℕ) → write-either-lts.Need-slice-aggregate-put-2 (past-part-reads.Asked, past-part-reads.Learnt, nothing-reads.Asked, nothing-reads.Learnt, within-reads.Asked, within-reads.Learnt, prove-goal-reads.Asked, prove-goal-reads.Learnt, put_reads.Asked, put_reads.Learnt, cut-reads.Asked, cut-reads.Learnt, write-goal-below t, write-goal.Post, behind-reads.Asked, behind-reads.Learnt, close-reads.Asked, close-reads.Learnt) (write-either-at t) write-either.Post
-write-either-slice-aggregate-put-2 t c = search rules
-
--- LEFT
--- src/write.rt:187:28
-write-some-slice-aggregate-put : (t : ℕ) → write-some-lts.Need-slice-aggregate-put (first-with-reads.Asked, first-with-reads.Learnt, push-reads.Asked, push-reads.Learnt, put_reads.Asked, put_reads.Learnt, put-number-reads.Asked, put-number-reads.Learnt, cut-reads.Asked, cut-reads.Learnt, bound-reads.Asked, bound-reads.Learnt, write-goal-below t, write-goal.Post, behind-reads.Asked, behind-reads.Learnt, close-reads.Asked, close-reads.Learnt) (write-some-at t) write-some.Post
-write-some-slice-aggregate-put t c = search rules
-
--- LEFT
--- src/write.rt:263:28
-write-under-slice-aggregate-put : (t : ℕ) → write-under-lts.Need-slice-aggregate-put (nothing-reads.Asked, nothing-reads.Learnt, past-part-reads.Asked, past-part-reads.Learnt, further-reads.Asked, further-reads.Learnt, suppose-reads.Asked, suppose-reads.Learnt, plus-reads.Asked, plus-reads.Learnt, forget-reads.Asked, forget-reads.Learnt, put_reads.Asked, put_reads.Learnt, cut-reads.Asked, cut-reads.Learnt, supposes-reads.Asked, supposes-reads.Learnt, write-goal-below t, write-goal.Post, behind-reads.Asked, behind-reads.Learnt, close-reads.Asked, close-reads.Learnt) (write-under-at t) write_under.Post
-write-under-slice-aggregate-put t c = search rules
-
--- LEFT
--- src/write.rt:299:28
-write-use-slice-aggregate-put : (t : ℕ) → write-use-lts.Need-slice-aggregate-put (first-clause-reads.Asked, first-clause-reads.Learnt, open-clause-reads.Asked, open-clause-reads.Learnt, nothing-reads.Asked, nothing-reads.Learnt, is-plain-reads.Asked, is-plain-reads.Learnt, put_reads.Asked, put_reads.Learnt, put-number-reads.Asked, put-number-reads.Learnt, cut-reads.Asked, cut-reads.Learnt, write-path-below t, write-path.Post, behind-reads.Asked, behind-reads.Learnt, close-reads.Asked, close-reads.Learnt) (write-use-at t) write-use.Post
-write-use-slice-aggregate-put t c = search rules
-
--- LEFT
--- src/write.rt:301:27
-write-use-slice-aggregate-put-2 : (t : ℕ) → write-use-lts.Need-slice-aggregate-put-2 (first-clause-reads.Asked, first-clause-reads.Learnt, open-clause-reads.Asked, open-clause-reads.Learnt, nothing-reads.Asked, nothing-reads.Learnt, is-plain-reads.Asked, is-plain-reads.Learnt, put_reads.Asked, put_reads.Learnt, put-number-reads.Asked, put-number-reads.Learnt, cut-reads.Asked, cut-reads.Learnt, write-path-below t, write-path.Post, behind-reads.Asked, behind-reads.Learnt, close-reads.Asked, close-reads.Learnt) (write-use-at t) write-use.Post
-write-use-slice-aggregate-put-2 t c = search rules
 
 pub path_all-shape_of-room : goal.path_all-shape_of-room
 path_all-shape_of-room t c = c.write_path.auto.1.1.1.0 ∙ (c.push.auto.0 ∙ c.number_through-i.auto.1.1.1.0)
