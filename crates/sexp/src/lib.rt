@@ -1,6 +1,7 @@
 // Canonical S-expressions (RFC 9804) in bytes: `decimal` reads a length, `text` a string, `carrier` judges a whole file.
 // From any offset: `strings` finds the plain string there, `skip` goes past the expression there, and `words` knows words, names and numbers.
 #![tactic(auto)]
+
 mod carrier;
 mod decimal;
 mod skip;

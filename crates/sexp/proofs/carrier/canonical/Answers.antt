@@ -8,9 +8,10 @@ use Rattle.sexp.proofs.CarrierLaws.{item, item-owed, item-open, close-none, clos
 use native.Mathlib.Omega.{arith}
 use borrow.Author.Rules.{rules}
 use Rattle.sexp.proofs.carrier.canonical.Goals as goal
+use Rattle.sexp.proofs.carrier.canonical.Goals.{In-Spans}
 
 -- past the string
-spans-known : (c : goal.In-Spans) → (c.loop-at.at < c.in-Spans.to) × ((c.in-Spans.to ≤ length c.args.s.now) × (scan hints_read c.args.limit (item c.loop-at.lists) c.loop-at.at c.loop-at.v (drop c.loop-at.at c.args.s.now) ≡ scan hints_read c.args.limit (owed (after c.loop-at.lists) 0) c.in-Spans.to c.loop-at.v (drop c.in-Spans.to c.args.s.now)))
+spans-known : (c : In-Spans) → (c.loop-at.at < c.in-Spans.to) × ((c.in-Spans.to ≤ length c.args.s.now) × (scan hints_read c.args.limit (item c.loop-at.lists) c.loop-at.at c.loop-at.v (drop c.loop-at.at c.args.s.now) ≡ scan hints_read c.args.limit (owed (after c.loop-at.lists) 0) c.in-Spans.to c.loop-at.v (drop c.in-Spans.to c.args.s.now)))
 spans-known c =
     let l = c.loop-at in
     let x = c.args in
@@ -50,23 +51,23 @@ returns-in-Stuck c =
     sym (l.invariant.1.1 ∙ text-stuck hints_read x.limit x.s.now l.at l.v l.lists c.text.result c.loop-at-test.true c.if-c-eq40.false c.if-c-eq41.false c.text.ensures c.in-Stuck.o c.in-Stuck.is)
 
 pub finish-requires-then-lists-eq0-2 : goal.finish-requires-then-lists-eq0-2
-finish-requires-then-lists-eq0-2 c = (spans-known c).1.0
+finish-requires-then-lists-eq0-2 c = (spans-known (goal.at.finish-requires-then-lists-eq0-2 c).In-Spans).1.0
 
 pub returns-then-lists-eq0-2 : goal.returns-then-lists-eq0-2
 returns-then-lists-eq0-2 c =
     let l = c.loop-at in
     let x = c.args in
-    let q = spans-known c in
+    let q = spans-known (goal.at.returns-then-lists-eq0-2 c).In-Spans in
     c.finish-then-lists-eq0-2.ensures x.limit ∙ sym (l.invariant.1.1 ∙ q.1.1 ∙ ap (λ (d : ℕ). scan hints_read x.limit (owed (after d) 0) c.in-Spans.to l.v (drop c.in-Spans.to x.s.now)) c.if-lists-eq0-2.true)
 
 pub loop-at-smaller : goal.loop-at-smaller
-loop-at-smaller c = let q = spans-known c in omega arith
+loop-at-smaller c = let q = spans-known (goal.at.loop-at-smaller c).In-Spans in omega arith
 
 pub loop-at-preserved : goal.loop-at-preserved
 loop-at-preserved c =
     let l = c.loop-at in
     let x = c.args in
-    let q = spans-known c in
+    let q = spans-known (goal.at.loop-at-preserved c).In-Spans in
     (q.1.0, (omega arith, l.invariant.1.1 ∙ q.1.1 ∙ ap (λ (k : State). scan hints_read x.limit k c.in-Spans.to l.v (drop c.in-Spans.to x.s.now)) (item-owed l.lists c.if-lists-eq0-2.false)))
 
 pub returns : goal.returns
