@@ -6,16 +6,17 @@ use Rattle.sexp.proofs.AnswerLaws.{plain-span, plain-inside}
 use native.Mathlib.Omega.{arith}
 use borrow.Author.Rules.{rules}
 use Rattle.carrier_cases.proofs.string.Goals as goal
+use Rattle.carrier_cases.proofs.string.Goals.{In-Span}
 
 -- the string that was read
-string-known : (c : goal.In-Span) → Plain c.args.s.now c.args.at c.in-Span.from c.in-Span.n
+string-known : (c : In-Span) → Plain c.args.s.now c.args.at c.in-Span.from c.in-Span.n
 string-known c = plain-span c.in-Span.is c.plain.ensures
 
 pub overflow_add-result : goal.overflow_add-result
-overflow_add-result c = let k = string-known c in omega (arith, plain-inside k)
+overflow_add-result c = let k = string-known (goal.at.overflow_add-result c).In-Span in omega (arith, plain-inside k)
 
 pub returns-in-Span : goal.returns-in-Span
 returns-in-Span c =
-    let k = string-known c in
+    let k = string-known (goal.at.returns-in-Span c).In-Span in
     let n = spell-some (str k.octets) in
     (omega (arith, k.ends), (omega arith, omega (arith, plain-inside k)))

@@ -10,10 +10,10 @@ pub slice_bounds-written-end : goal.slice_bounds-written-end
 slice_bounds-written-end c = let k = c.tptp in let l = written-inside k.ensures c.in-Written.r c.in-Written.g c.in-Written.is in let q = k.auto.1.0 in omega (arith, l.0)
 
 pub slice_bounds-written-end-in-Written : goal.slice_bounds-written-end-in-Written
-slice_bounds-written-end-in-Written c = let k = c.tptp in let l = written-inside k.ensures c.r.given.0.0 c.r.given.0.1.0 c.r.given.1 in let q = k.auto.1.0 in sym (length-take-le c.r.given.0.0 k.new.1.0 (omega (arith, l.0)))
+slice_bounds-written-end-in-Written c = let k = c.tptp in let l = written-inside k.ensures c.in-Written.r c.in-Written.g c.in-Written.is in let q = k.auto.1.0 in sym (length-take-le c.in-Written.r k.new.1.0 (omega (arith, l.0)))
 
 pub slice_bounds-written-end-in-Written-2 : goal.slice_bounds-written-end-in-Written-2
-slice_bounds-written-end-in-Written-2 c = let k = c.tptp in let l = written-inside k.ensures c.r.given.0.0 c.r.given.0.1.0 c.r.given.1 in let q = k.auto.1.1.0 in omega (arith, l.1)
+slice_bounds-written-end-in-Written-2 c = let k = c.tptp in let l = written-inside k.ensures c.in-Written.r c.in-Written.g c.in-Written.is in let q = k.auto.1.1.0 in omega (arith, l.1)
 
 pub slice_bounds-written-end-in-Written-3 : goal.slice_bounds-written-end-in-Written-3
-slice_bounds-written-end-in-Written-3 c = let k = c.tptp in let l = written-inside k.ensures c.r.given.0.0 c.r.given.0.1.0 c.r.given.1 in let q = k.auto.1.1.0 in sym (length-take-le c.r.given.0.1.0 k.new.1.1.0 (omega (arith, l.1)))
+slice_bounds-written-end-in-Written-3 c = let k = c.tptp in let l = written-inside k.ensures c.in-Written.r c.in-Written.g c.in-Written.is in let q = k.auto.1.1.0 in sym (length-take-le c.in-Written.g k.new.1.1.0 (omega (arith, l.1)))

@@ -9,5 +9,5 @@ returns-then-not-prove_some c = let u = c.prove_some in
     laws.with_none u.ensures.0 (not-true u.result c.if-not-prove_some.true-raw)
 
 pub returns : goal.returns
-returns c = let u = c.prove-some in
-    laws.with-left u.ensures.0 (not-false u.result c.slice_known-2-1.false) u.ensures.1 c.variable.ensures c.number.ensures
+returns c = let u = c.prove_some in
+    laws.with-left u.ensures.0 (not-false u.result c.if-not-prove_some.false-raw) u.ensures.1 c.variable.ensures c.number.ensures

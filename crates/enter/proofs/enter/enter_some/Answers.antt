@@ -17,7 +17,7 @@ returns-then-rank-ne7 c = λ nest ds us P o h bs g q x. some-other q x c.word_th
 
 pub returns-then-not-may_use : goal.returns-then-not-may_use
 unfolding rank
-returns-then-not-may_use c = λ nest ds us P o h bs g q x. some-refused q x c.x-1.ensures (sym c.word_there.ensures ∙ c.rank.false) (numeral-from c.if-rank-ne7.ensures (number_is c.i.given.1 c.plus-from.ensures)) (sym c.may_use.ensures ∙ not-true _ c.if-not-may_use.true-raw)
+returns-then-not-may_use c = λ nest ds us P o h bs g q x. some-refused q x c.word_there.ensures (sym c.rank.ensures ∙ c.if-rank-ne7.false) (numeral-from c.plus-from.ensures (number_is c.in-Is.is c.number.ensures)) (sym c.may_use.ensures ∙ not-true _ c.if-not-may_use.true-raw)
 
 pub returns-in-Nothing : goal.returns-in-Nothing
 unfolding rank
@@ -25,8 +25,8 @@ returns-in-Nothing c = λ nest ds us P o h bs g q x. some-nothing q x c.word_the
 
 pub returns-in-Nothing-past : goal.returns-in-Nothing-past
 unfolding rank
-returns-in-Nothing-past c = λ nest ds us P o h bs g q x. absurd (some-never q x (numeral-from c.if-rank-ne7.ensures (number_is c.i.given.1 c.plus-from.ensures)) (nothing-from c.if-rank-ne7.ensures (past-nothing c.in-Nothing-past.is c.past.ensures)))
+returns-in-Nothing-past c = λ nest ds us P o h bs g q x. absurd (some-never q x (numeral-from c.plus-from.ensures (number_is c.in-Is.is c.number.ensures)) (nothing-from c.plus-from.ensures (past-nothing c.in-Nothing-past.is c.past.ensures)))
 
 pub returns-in-Next : goal.returns-in-Next
 unfolding rank
-returns-in-Next c = λ nest ds us P o h bs g q x. says-as (c.push.ensures ∙ ap (λ (b : Binding). set c.before.args.room.now c.before.args.w.top (held (binding_word b))) c.candidate.ensures) (one_alike refl c.bound.ensures) (some_same q x c.x-1.ensures (sym c.word_there.ensures ∙ c.rank.false) (numeral-from c.if-rank-ne7.ensures (number_is c.i.given.1 c.plus-from.ensures)) (sym c.may_use.ensures ∙ not-false _ c.if-not-may_use.false-raw) (ends-from c.if-rank-ne7.ensures (past_next c.in-Next.is c.past.ensures)))
+returns-in-Next c = λ nest ds us P o h bs g q x. says-as (c.push.ensures ∙ ap (λ (b : Binding). set c.before.args.room.now c.before.args.w.top (held (binding_word b))) c.candidate.ensures) (one_alike refl c.bound.ensures) (some_same q x c.word_there.ensures (sym c.rank.ensures ∙ c.if-rank-ne7.false) (numeral-from c.plus-from.ensures (number_is c.in-Is.is c.number.ensures)) (sym c.may_use.ensures ∙ not-false _ c.if-not-may_use.false-raw) (ends-from c.plus-from.ensures (past_next c.in-Next.is c.past.ensures)))

@@ -14,9 +14,9 @@ loop-k-init c = let x = c.args in
 
 pub loop-k-preserved : goal.loop-k-preserved
 loop-k-preserved c = let x = c.before.before.args in
-    let l = c.loop in
-    let i = c.most-k.true in
-    (omega (arith, l.invariant.0), linked-next x.numbers x.links (min x.n 256) x.room.now (l.k - 1) c.word.result c.word-next.result (omega arith) l.invariant.1 (omega (arith, i)) (omega (arith, l.invariant.0, i)) c.loop-k-test.ensures c.word.ensures.0 c.word-next.ensures c.put.ensures c.put-in-loop-k.ensures)
+    let l = c.loop-k in
+    let i = c.loop-k-test.true in
+    (omega (arith, l.invariant.0), linked-next x.numbers x.links (min x.n 256) x.room.now (l.k - 1) c.chain_of.result c.word-next.result (omega arith) l.invariant.1 (omega (arith, i)) (omega (arith, l.invariant.0, i)) c.word.ensures c.chain_of.ensures.0 c.word-next.ensures c.put.ensures c.put-in-loop-k.ensures)
 
 pub returns : goal.returns
 returns c = let x = c.args in

@@ -5,7 +5,7 @@ use Rattle.keys.proofs.table.fill_keys.Goals as goal
 
 pub returns : goal.returns
 returns c = let x = c.before.before.args in
-    let kept = c.keep-candidates in
-    let ruled = c.keep-rules in
-    let chained = c.fill-chains in
-    keys_filled x.room.now kept.new.1.0 ruled.new.1.0 chained.new.0 c.fill_chains-2.new.0 x.rules.now x.terms.now kept.ensures ruled.ensures c.slice_known-3-1.ensures chained.ensures c.word-m.ensures c.fill_chains-2.ensures
+    let kept = c.keep_candidates in
+    let ruled = c.keep_rules in
+    let chained = c.fill_chains in
+    keys_filled x.room.now kept.new.1.0 ruled.new.1.0 chained.new.0 c.fill_chains-2.new.0 x.rules.now x.terms.now kept.ensures ruled.ensures c.word-n.ensures chained.ensures c.word-m.ensures c.fill_chains-2.ensures

@@ -13,10 +13,10 @@ loop-i-init c = let x = c.before.args in (omega arith, candidates-none x.room.no
 
 pub loop-i-preserved : goal.loop-i-preserved
 loop-i-preserved c = let x = c.before.before.before.args in
-    let l = c.loop in
-    let m = c.slice_known-1.ensures in
-    let i = c.most-n.true in
-    (omega (arith, i), candidates-more x.room.now x.terms.now c.loop-i-test.result c.key_at-k.result l.invariant.1 (omega (arith, i, m)) c.loop-i-test.ensures c.nowhere.ensures c.key_at-k.ensures c.put.ensures)
+    let l = c.loop-i in
+    let m = c.most-n.ensures in
+    let i = c.loop-i-test.true in
+    (omega (arith, i), candidates-more x.room.now x.terms.now c.word-at.result c.key_at-k.result l.invariant.1 (omega (arith, i, m)) c.word-at.ensures c.nowhere.ensures c.key_at-k.ensures c.put.ensures)
 
 pub returns : goal.returns
 returns c = let x = c.before.args in

@@ -13,10 +13,10 @@ loop-i-init c = let x = c.before.args in (omega arith, rules-none x.room.now x.r
 
 pub loop-i-preserved : goal.loop-i-preserved
 loop-i-preserved c = let x = c.before.before.before.args in
-    let l = c.loop in
-    let m = c.slice_known-1.ensures in
-    let i = c.most-n.true in
-    (omega (arith, i), rules-more x.room.now x.rules.now c.loop-i-test.result c.clause_key-k.result l.invariant.1 (omega (arith, i, m)) c.loop-i-test.ensures c.clause_key-k.ensures c.put.ensures)
+    let l = c.loop-i in
+    let m = c.most-n.ensures in
+    let i = c.loop-i-test.true in
+    (omega (arith, i), rules-more x.room.now x.rules.now c.word-at.result c.clause_key-k.result l.invariant.1 (omega (arith, i, m)) c.word-at.ensures c.clause_key-k.ensures c.put.ensures)
 
 pub returns : goal.returns
 returns c = let x = c.before.args in

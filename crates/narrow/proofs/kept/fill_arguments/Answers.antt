@@ -19,7 +19,7 @@ returns-then-n-k c = let x = c.before.args in
 
 pub loop-k-preserved : goal.loop-k-preserved
 loop-k-preserved c = let x = c.before.before.before.before.args in
-    arguments-next x.room.now x.rules.now x.terms.now c.loop.invariant c.slice_known-1.true c.loop-k-test.ensures c.word-key.ensures c.arguments_word-w.ensures c.put.ensures
+    arguments-next x.room.now x.rules.now x.terms.now c.loop-k.invariant c.loop-k-test.true c.word-key.ensures c.word-at.ensures c.arguments_word-w.ensures c.put.ensures
 
 pub shape_of-room : goal.shape_of-room
 shape_of-room c = c.loop-k.invariant.within.long

@@ -19,7 +19,7 @@ returns-then-n-k c = let x = c.before.args in
 
 pub loop-k-preserved : goal.loop-k-preserved
 loop-k-preserved c = let x = c.before.before.args in
-    heads-more x.room.now x.rules.now c.head_at-h.result c.word-at.result c.predicate_of.result c.place_of.result c.loop.invariant c.loop-k.true c.word-at.ensures c.head_at-h.ensures c.predicate_of.ensures c.place_of.ensures c.put.ensures c.put-in-loop-k.ensures
+    heads-more x.room.now x.rules.now c.head_at-h.result c.word-at.result c.predicate_of.result c.place_of.result c.loop-k.invariant c.loop-k-test.true c.word-at.ensures c.head_at-h.ensures c.predicate_of.ensures c.place_of.ensures c.put.ensures c.put-in-loop-k.ensures
 
 pub shape_of-room : goal.shape_of-room
 shape_of-room c = c.loop-k.invariant.within.long

@@ -67,12 +67,12 @@ narrow_atom-shape_of-marks-then-not-narrow_clause t c = c.narrow_clause.auto.1.1
 pub narrow_atom-returns-then-not-narrow_clause : goal.narrow_atom-returns-then-not-narrow_clause
 narrow_atom-returns-then-not-narrow_clause t c = let l = c.loop-k in
     let n = c.narrow_clause in
-    (more-then l.invariant.1.0 n.ensures.0, tried.atom-stops l.k l.invariant.1.1 l.invariant.0 c.predicate_key-arg-1.ensures c.arguments_of-arg-1.ensures n.ensures.1)
+    (more-then l.invariant.1.0 n.ensures.0, tried.atom-stops l.k l.invariant.1.1 l.invariant.0 c.predicate_key-predicate.ensures c.arguments_of-asked.ensures n.ensures.1)
 
 pub narrow_atom-loop-k-preserved : goal.narrow_atom-loop-k-preserved
 narrow_atom-loop-k-preserved t c = let l = c.loop-k in
     let n = c.narrow_clause in
-    (n.auto.1.1.1.0 ∙ l.invariant.0, (more-then l.invariant.1.0 n.ensures.0, tried.atom-next l.k l.invariant.1.1 l.invariant.0 c.predicate_key-arg-1.ensures c.arguments_of-arg-1.ensures n.ensures.1 (not-false n.result c.if-not-narrow_clause.false-raw) n.ensures.0))
+    (n.auto.1.1.1.0 ∙ l.invariant.0, (more-then l.invariant.1.0 n.ensures.0, tried.atom-next l.k l.invariant.1.1 l.invariant.0 c.predicate_key-predicate.ensures c.arguments_of-asked.ensures n.ensures.1 (not-false n.result c.if-not-narrow_clause.false-raw) n.ensures.0))
 
 pub narrow_atom-shape_of-room : goal.narrow_atom-shape_of-room
 narrow_atom-shape_of-room t c = c.loop-k.invariant.0
@@ -138,16 +138,16 @@ pub narrow_rule-returns-in_default : goal.narrow_rule-returns-in_default
 narrow_rule-returns-in_default t c = let x = c.args in (more-none x.marks.now, λ own. rules.rule-none x.k c.open_clause.ensures c.in_default.is)
 
 pub narrow_rule-shape_of-room-then-not-p : goal.narrow_rule-shape_of-room-then-not-p
-narrow_rule-shape_of-room-then-not-p t c = c.open-clause.auto.0
+narrow_rule-shape_of-room-then-not-p t c = c.open_clause.auto.0
 
 pub narrow_rule-returns-then-not-p : goal.narrow_rule-returns-then-not-p
-narrow_rule-returns-then-not-p t c = let x = c.before.args in (more-none x.marks.now, λ own. rules.rule-stops x.k c.open_clause-arg-1.ensures c.x.given.1)
+narrow_rule-returns-then-not-p t c = let x = c.before.args in (more-none x.marks.now, λ own. rules.rule-stops x.k c.open_clause.ensures c.in-Clause.is)
 
 pub narrow_rule-shape_of-room-then-not-p-2 : goal.narrow_rule-shape_of-room-then-not-p-2
-narrow_rule-shape_of-room-then-not-p-2 t c = c.open-clause.auto.0
+narrow_rule-shape_of-room-then-not-p-2 t c = c.open_clause.auto.0
 
 pub narrow_rule-returns-then-not-p-2 : goal.narrow_rule-returns-then-not-p-2
-narrow_rule-returns-then-not-p-2 t c = let x = c.before.args in (more-none x.marks.now, λ own. rules.rule-stops x.k c.open_clause-arg-1.ensures c.x.given.1)
+narrow_rule-returns-then-not-p-2 t c = let x = c.before.args in (more-none x.marks.now, λ own. rules.rule-stops x.k c.open_clause.ensures c.in-Clause.is)
 
 pub narrow_rule-shape_of-room-in_default-same_as : goal.narrow_rule-shape_of-room-in_default-same_as
 narrow_rule-shape_of-room-in_default-same_as t c = c.open_clause.auto.0

@@ -72,22 +72,22 @@ pub decide-find_clause-k-requires : goal.decide-find_clause-k-requires
 decide-find_clause-k-requires t c = (omega (arith, c.decreases), tt)
 
 pub decide-shape_of-room-then-clauses-k : goal.decide-shape_of-room-then-clauses-k
-decide-shape_of-room-then-clauses-k t c = c.keep.auto.1.1.1.0 ∙ c.find-clause.auto.1.1.1.0
+decide-shape_of-room-then-clauses-k t c = c.keep.auto.1.1.1.0 ∙ c.find_clause-k.auto.1.1.1.0
 
 pub decide-returns-then-clauses-k : goal.decide-returns-then-clauses-k
-decide-returns-then-clauses-k t c = atoms.decide-none c.before.args.at c.find_clause-arg-1.ensures.0 c.find-clause.auto.1.1.1.0 c.clauses.ensures c.if-clauses-k.true c.plus.ensures c.keep.ensures.0 c.keep.ensures.1
+decide-returns-then-clauses-k t c = atoms.decide-none c.before.args.at c.find_clause-k.ensures.0 c.find_clause-k.auto.1.1.1.0 c.clauses.ensures c.if-clauses-k.true c.plus.ensures c.keep.ensures.0 c.keep.ensures.1
 
 pub decide-shape_of-room-then-is_fact : goal.decide-shape_of-room-then-is_fact
-decide-shape_of-room-then-is_fact t c = c.find-clause.auto.1.1.1.0
+decide-shape_of-room-then-is_fact t c = c.find_clause-k.auto.1.1.1.0
 
 pub decide-returns-then-is_fact : goal.decide-returns-then-is_fact
-decide-returns-then-is_fact t c = atoms.decide-fact c.before.before.args.at c.slice_known-1.ensures.0 c.find-clause.auto.1.1.1.0 c.slice_known-2-1.ensures c.clauses.false
+decide-returns-then-is_fact t c = atoms.decide-fact c.before.before.args.at c.find_clause-k.ensures.0 c.find_clause-k.auto.1.1.1.0 c.clauses.ensures c.if-clauses-k.false
 
 pub decide-shape_of-room : goal.decide-shape_of-room
-decide-shape_of-room t c = c.keep-2.auto.1.1.1.0 ∙ c.find-clause.auto.1.1.1.0
+decide-shape_of-room t c = c.keep-2.auto.1.1.1.0 ∙ c.find_clause-k.auto.1.1.1.0
 
 pub decide-returns : goal.decide-returns
-decide-returns t c = atoms.decide-some c.before.before.before.args.at c.shared_slice_known-3-1.ensures.0 c.shared_slice_known-3-1.ensures.1 c.find-clause.auto.1.1.1.0 c.room-1.ensures c.slice_known-2-1.false c.plus-2.ensures c.rule_number-number.ensures c.keep-2.ensures.0 c.keep-2.ensures.1
+decide-returns t c = atoms.decide-some c.before.before.before.args.at c.find_clause-k.ensures.0 c.find_clause-k.ensures.1 c.find_clause-k.auto.1.1.1.0 c.clauses.ensures c.if-clauses-k.false c.plus-2.ensures c.rule_number-number.ensures c.keep-2.ensures.0 c.keep-2.ensures.1
 
 pub each-loop-i-init : goal.each-loop-i-init
 each-loop-i-init t c = let x = c.before.args in
@@ -115,7 +115,7 @@ each-returns t c = let x = c.before.args in
     passing.all_done x.nest l.i c.candidates-n.result c.loop-i-test.false c.candidates-n.ensures l.invariant.1.1
 
 pub fill-returns-then-k-eq0 : goal.fill-returns-then-k-eq0
-fill-returns-then-k-eq0 t c = filling.fill_end c.before.args.k c.slice_known-1.true c.fits.ensures
+fill-returns-then-k-eq0 t c = filling.fill_end c.before.args.k c.if-k-eq0.true c.fits.ensures
 
 pub fill-try_all-requires : goal.fill-try_all-requires
 fill-try_all-requires t c = (omega (arith, c.decreases, c.if-k-eq0.false), tt)
@@ -146,22 +146,22 @@ find_clause-shape_of-room-then-use_clause t c = c.use_clause.auto.1.1.1.0 ∙ c.
 
 pub find_clause-returns-then-use_clause : goal.find_clause-returns-then-use_clause
 find_clause-returns-then-use_clause t c = let l = c.loop-k in
-    (atoms.find-hit l.k c.slice_known-1.result c.loop-k-test.true c.slice_known-1.ensures l.invariant.1.1 l.invariant.1.0 c.use_clause.ensures.0 c.if-use_clause.true, locating.located-hit l.k l.invariant.1.1 l.invariant.1.0 c.use_clause.ensures.1 c.if-use_clause.true)
+    (atoms.find-hit l.k c.clauses-n.result c.loop-k-test.true c.clauses-n.ensures l.invariant.1.1 l.invariant.1.0 c.use_clause.ensures.0 c.if-use_clause.true, locating.located-hit l.k l.invariant.1.1 l.invariant.1.0 c.use_clause.ensures.1 c.if-use_clause.true)
 
 pub find_clause-loop-k-smaller : goal.find_clause-loop-k-smaller
-find_clause-loop-k-smaller t c = let z = c.next_clause-k-in-loop-k.ensures.further (omega (arith, c.loop-k.true)) in
-    omega (arith, c.loop-k.true)
+find_clause-loop-k-smaller t c = let z = c.next_clause-k-in-loop-k.ensures.further (omega (arith, c.loop-k-test.true)) in
+    omega (arith, c.loop-k-test.true)
 
 pub find_clause-loop-k-preserved : goal.find_clause-loop-k-preserved
-find_clause-loop-k-preserved t c = let l = c.loop in
-    (c.next_clause-k-in-loop-k.ensures.few, (c.use-clause.auto.1.1.1.0 ∙ l.invariant.1.0, atoms.find-miss l.k l.invariant.1.1 l.invariant.1.0 (c.use-clause.auto.1.1.1.0 ∙ l.invariant.1.0) c.use_clause-arg-1.ensures.0 c.slice_known-in-loop-k-1.false c.next_clause-k-in-loop-k.ensures))
+find_clause-loop-k-preserved t c = let l = c.loop-k in
+    (c.next_clause-k-in-loop-k.ensures.few, (c.use_clause.auto.1.1.1.0 ∙ l.invariant.1.0, atoms.find-miss l.k l.invariant.1.1 l.invariant.1.0 (c.use_clause.auto.1.1.1.0 ∙ l.invariant.1.0) c.use_clause.ensures.0 c.if-use_clause.false c.next_clause-k-in-loop-k.ensures))
 
 pub find_clause-shape_of-room : goal.find_clause-shape_of-room
 find_clause-shape_of-room t c = c.loop-k.invariant.1.0
 
 pub find_clause-returns : goal.find_clause-returns
 find_clause-returns t c = let l = c.loop-k in
-    (atoms.find-done l.k c.slice_known-1.result c.loop-k-test.false c.slice_known-1.ensures l.invariant.1.1, locating.located-none c.slice_known-1.result c.slice_known-1.ensures)
+    (atoms.find-done l.k c.clauses-n.result c.loop-k-test.false c.clauses-n.ensures l.invariant.1.1, locating.located-none c.clauses-n.result c.clauses-n.ensures)
 
 pub fork-returns-in_default : goal.fork-returns-in_default
 fork-returns-in_default t c = passing.and-lost c.args.nest c.past_part.ensures c.in_default.is
@@ -177,13 +177,13 @@ look-look_and-requires t c = (omega (arith, c.decreases), tt)
 
 pub look-returns-then-not-is_due : goal.look-returns-then-not-is_due
 unfolding rank
-look-returns-then-not-is_due t c = let k = c.word_there-arg-1.result in
-    filling.look-other k c.word_there-arg-1.ensures (filling.other_word k W.And (3 ∷ []) (tag-rank k) c.match.keys2 refl) (filling.one-waits c.args.height c.is_due.ensures (not-true c.is_due.result c.if-not-is_due.true-raw))
+look-returns-then-not-is_due t c = let k = c.word_there.result in
+    filling.look-other k c.word_there.ensures (filling.other_word k W.And (3 ∷ []) (tag-rank k) c.in-Atom.in-Atom-own.keys2 refl) (filling.one-waits c.args.height c.is_due.ensures (not-true c.is_due.result c.if-not-is_due.true-raw))
 
 pub look-returns-then-height-eq0 : goal.look-returns-then-height-eq0
 unfolding rank
-look-returns-then-height-eq0 t c = let k = c.word_there-arg-1.result in
-    filling.look-other k c.word_there-arg-1.ensures (filling.other_word k W.And (3 ∷ []) (tag-rank k) c.match.keys2 refl) (filling.one-asked c.args.height c.is_due.ensures (not-false c.is_due.result c.if-not-is_due.false-raw) (laws.no-height c.args.height c.if-height-eq0.true))
+look-returns-then-height-eq0 t c = let k = c.word_there.result in
+    filling.look-other k c.word_there.ensures (filling.other_word k W.And (3 ∷ []) (tag-rank k) c.in-Atom.in-Atom-own.keys2 refl) (filling.one-asked c.args.height c.is_due.ensures (not-false c.is_due.result c.if-not-is_due.false-raw) (laws.no-height c.args.height c.if-height-eq0.true))
 
 pub look-prove_atom-requires : goal.look-prove_atom-requires
 look-prove_atom-requires t c = (omega (arith, c.decreases, c.if-height-eq0.false), tt)
@@ -203,8 +203,8 @@ look-shape_of-room-else-height-eq0 t c = c.prove_atom.auto.1.1.1.0
 
 pub look-returns-else-height-eq0 : goal.look-returns-else-height-eq0
 unfolding rank
-look-returns-else-height-eq0 t c = let k = c.word_there-arg-1.result in
-    filling.look-other k c.word_there-arg-1.ensures (filling.other_word k W.And (3 ∷ []) (tag-rank k) c.match.keys2 refl) (filling.one-asked c.args.height c.is_due.ensures (not-false c.is_due.result c.if-not-is_due.false-raw) (laws.by_word c.args.height W.Atom k c.if-height-eq0.false c.word_there-arg-1.ensures c.enum-told2.given.1 c.prove_atom.ensures))
+look-returns-else-height-eq0 t c = let k = c.word_there.result in
+    filling.look-other k c.word_there.ensures (filling.other_word k W.And (3 ∷ []) (tag-rank k) c.in-Atom.in-Atom-own.keys2 refl) (filling.one-asked c.args.height c.is_due.ensures (not-false c.is_due.result c.if-not-is_due.false-raw) (laws.by_word c.args.height W.Atom k c.if-height-eq0.false c.word_there.ensures c.in-Atom.is c.prove_atom.ensures))
 
 pub look-shape_of-room-in_default : goal.look-shape_of-room-in_default
 look-shape_of-room-in_default t c = c.ask.auto.1.1.1.0
@@ -251,22 +251,22 @@ pub prove_all-returns : goal.prove_all-returns
 prove_all-returns t c = laws.all-goes {p = c.args.w.parameters + 1} refl c.bound.ensures (laws.proving-from c.push.ensures c.prove_goal.ensures)
 
 pub prove_atom-returns-then-n-next_clause : goal.prove_atom-returns-then-n-next_clause
-prove_atom-returns-then-n-next_clause t c = atoms.atom-barred c.both_keys-of.result c.next_clause.result c.slice_known-1.ensures.0 c.slice_known-1.ensures.1 c.both_keys-of.ensures c.next_clause.ensures c.if-n-next_clause.true
+prove_atom-returns-then-n-next_clause t c = atoms.atom-barred c.clauses-n.result c.next_clause.result c.both_keys-of.ensures.0 c.both_keys-of.ensures.1 c.clauses-n.ensures c.next_clause.ensures c.if-n-next_clause.true
 
 pub prove_atom-decide-requires : goal.prove_atom-decide-requires
 prove_atom-decide-requires t c = (omega (arith, c.before.before.before.before.requires.0), tt)
 
 pub prove_atom-returns-in-No : goal.prove_atom-returns-in-No
-prove_atom-returns-in-No t c = atoms.atom-recalled c.struct_known-1.result c.recall.result false c.plus.ensures c.struct_known-1.ensures.1 c.recall.ensures (λ b x. subst (Says b) c.in-No.is x)
+prove_atom-returns-in-No t c = atoms.atom-recalled c.slot_for-at.result c.recall.result false c.plus.ensures c.slot_for-at.ensures.1 c.recall.ensures (λ b x. subst (Says b) c.in-No.is x)
 
 pub prove_atom-returns-in-Yes : goal.prove_atom-returns-in-Yes
-prove_atom-returns-in-Yes t c = atoms.atom-recalled c.struct_known-1.result c.recall.result true c.plus.ensures c.struct_known-1.ensures.1 c.recall.ensures (λ b x. subst (Says b) c.in-Yes.is x)
+prove_atom-returns-in-Yes t c = atoms.atom-recalled c.slot_for-at.result c.recall.result true c.plus.ensures c.slot_for-at.ensures.1 c.recall.ensures (λ b x. subst (Says b) c.in-Yes.is x)
 
 pub prove_atom-shape_of-room-in-Unknown : goal.prove_atom-shape_of-room-in-Unknown
 prove_atom-shape_of-room-in-Unknown t c = c.decide.auto.1.1.1.0
 
 pub prove_atom-returns-in-Unknown : goal.prove_atom-returns-in-Unknown
-prove_atom-returns-in-Unknown t c = atoms.atom-decided c.struct_known-1.result c.shared_slice_known-2-1.ensures.0 c.shared_slice_known-2-1.ensures.1 c.struct_known-1.ensures.1 c.decide.ensures
+prove_atom-returns-in-Unknown t c = atoms.atom-decided c.slot_for-at.result c.both_keys-of.ensures.0 c.both_keys-of.ensures.1 c.slot_for-at.ensures.1 c.decide.ensures
 
 pub prove_goal-returns-then-height-eq0 : goal.prove_goal-returns-then-height-eq0
 prove_goal-returns-then-height-eq0 t c = laws.no-height c.args.height c.if-height-eq0.true
@@ -452,7 +452,7 @@ try_one-shape_of-room-then-not-may_fit t c = c.push.auto.0
 
 pub try_one-returns-then-not-may_fit : goal.try_one-returns-then-not-may_fit
 try_one-returns-then-not-may_fit t c = let x = c.before.args in
-    filling.with-head x.v x.i c.may_use.result c.may_use.ensures (not-false c.may_use.result c.if-not-may_use.false-raw) c.word_of-arg-1.ensures c.word_of.ensures c.may_fit.ensures (not-true c.may_fit.result c.if-not-may_fit.true-raw)
+    filling.with-head x.v x.i c.may_use.result c.may_use.ensures (not-false c.may_use.result c.if-not-may_use.false-raw) c.word_of.ensures c.push.ensures c.may_fit.ensures (not-true c.may_fit.result c.if-not-may_fit.true-raw)
 
 pub try_one-body-requires : goal.try_one-body-requires
 try_one-body-requires t c = (omega (arith, c.before.requires.0), tt)
@@ -462,7 +462,7 @@ try_one-shape_of-room-then-not-body t c = c.body.auto.1.1.1.0 ∙ c.push.auto.0
 
 pub try_one-returns-then-not-body : goal.try_one-returns-then-not-body
 try_one-returns-then-not-body t c = let x = c.before.args in
-    filling.with-body x.v x.i c.may_use.result c.may_use.ensures (not-false c.may_use.result c.if-not-may_use.false-raw) c.word_of-arg-1.ensures c.word_of.ensures c.body.ensures (not-true c.body.result c.if-not-body.true-raw)
+    filling.with-body x.v x.i c.may_use.result c.may_use.ensures (not-false c.may_use.result c.if-not-may_use.false-raw) c.word_of.ensures c.push.ensures c.body.ensures (not-true c.body.result c.if-not-body.true-raw)
 
 pub try_one-fill-requires : goal.try_one-fill-requires
 try_one-fill-requires t c = (omega (arith, c.before.requires.0), tt)
@@ -472,7 +472,7 @@ try_one-shape_of-room t c = c.fill.auto.1.1.1.0 ∙ (c.body.auto.1.1.1.0 ∙ c.p
 
 pub try_one-returns : goal.try_one-returns
 try_one-returns t c = let x = c.before.args in
-    filling.with-goes x.v x.i c.may_use.result c.may_use.ensures (not-false c.may_use.result c.if-not-may_use.false-raw) c.word_of-arg-1.ensures c.word_of.ensures c.body.ensures (not-false c.body.result c.if-not-body.false-raw) c.body.auto.1.1.1.0 c.fill.ensures
+    filling.with-goes x.v x.i c.may_use.result c.may_use.ensures (not-false c.may_use.result c.if-not-may_use.false-raw) c.word_of.ensures c.push.ensures c.body.ensures (not-false c.body.result c.if-not-body.false-raw) c.body.auto.1.1.1.0 c.fill.ensures
 
 pub under-returns-then-left-eq0 : goal.under-returns-then-left-eq0
 under-returns-then-left-eq0 t c = laws.under-flat c.if-left-eq0.true
@@ -496,7 +496,7 @@ pub use_clause-start-requires : goal.use_clause-start-requires
 use_clause-start-requires t c = (omega (arith, c.before.requires.0, c.clause_parts-p.ensures.few), tt)
 
 pub use_clause-returns-then-p : goal.use_clause-returns-then-p
-use_clause-returns-then-p t c = (filling.by_parts c.before.args.k c.open_clause-arg-1.ensures c.x.given.1 c.clause_parts-p.ensures c.if-p.true c.start.ensures, locating.located-parts c.before.args.k c.open_clause-arg-1.ensures c.x.given.1 c.clause_parts-p.ensures c.if-p.true c.start.ensures)
+use_clause-returns-then-p t c = (filling.by_parts c.before.args.k c.open_clause.ensures c.in-Clause.is c.clause_parts-p.ensures c.if-p.true c.start.ensures, locating.located-parts c.before.args.k c.open_clause.ensures c.in-Clause.is c.clause_parts-p.ensures c.if-p.true c.start.ensures)
 
 pub use_clause-returns : goal.use_clause-returns
-use_clause-returns t c = (passing.by-clause c.before.args.k c.open_clause-arg-1.ensures c.x.given.1 c.through.ensures.0, locating.located-by c.before.args.k c.open_clause-arg-1.ensures c.x.given.1 c.through.ensures.1)
+use_clause-returns t c = (passing.by-clause c.before.args.k c.open_clause.ensures c.in-Clause.is c.through.ensures.0, locating.located-by c.before.args.k c.open_clause.ensures c.in-Clause.is c.through.ensures.1)

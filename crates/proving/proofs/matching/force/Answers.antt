@@ -8,7 +8,7 @@ use Rattle.proving.proofs.matching.force.Goals as goal
 
 pub returns-then-not-may_use : goal.returns-then-not-may_use
 returns-then-not-may_use c = let x = c.before.before.args in
-    variable-barred {f = files_of x.rules.now x.goal.now x.terms.now} {room = x.room.now} {w = x.w} {p = x.p} {y = x.y} x.v c.slice_known-1.ensures c.c.given.0.0 c.c.given.1 c.may_use.ensures (not-true c.may_use.result c.if-not-may_use.true-raw)
+    variable-barred {f = files_of x.rules.now x.goal.now x.terms.now} {room = x.room.now} {w = x.w} {p = x.p} {y = x.y} x.v c.candidate_at.ensures c.in-Candidate.c c.in-Candidate.is c.may_use.ensures (not-true c.may_use.result c.if-not-may_use.true-raw)
 
 pub returns-in-Nothing : goal.returns-in-Nothing
 returns-in-Nothing c = let x = c.before.args in

@@ -7,9 +7,10 @@ use Rattle.table.proofs.EntryLaws.{eight-stored, entered-is}
 use native.Mathlib.Omega.{arith}
 use borrow.Author.Rules.{rules}
 use Rattle.table.proofs.kept.enter.Goals as goal
+use Rattle.table.proofs.kept.enter.Goals.{Start}
 
 -- the room is so short that the words of a slot in it have numbers
-short : (s : goal.Start) → s.args.at + 16 ≤ length s.args.room.now → min (s.args.at + 8) 18446744073709551615 ≡ s.args.at + 8
+short : (s : Start) → s.args.at + 16 ≤ length s.args.room.now → min (s.args.at + 8) 18446744073709551615 ≡ s.args.at + 8
 short s h = omega arith
 
 pub shape_of-room : goal.shape_of-room
@@ -36,4 +37,4 @@ returns c = let x = c.args in let a = x.at in let room = x.room.now in
     c.put-6.ensures
     c.put-7.ensures
     c.put-8.ensures)
-    (c.plus-2.ensures ∙ short c h)
+    (c.plus-2.ensures ∙ short (goal.at.returns c).Start h)

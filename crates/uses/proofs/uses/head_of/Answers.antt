@@ -21,14 +21,14 @@ pub overflow_add-x : goal.overflow_add-x
 overflow_add-x c = let x = c.args in
     let h = head-bound (file_of x.rules.now x.goal.now x.terms.now x.x.source) _ x.x c.part-s.ensures c.in-Next.n (past_next c.in-Next.is c.past.ensures) in
     let l = file-length x.rules.now x.goal.now x.terms.now x.x.source in
-    let g = c.well-formed in
+    let g = c.well_formed in
     record { fits = omega (arith, h.0, l, g) }
 
 pub overflow_add-x-in-Next : goal.overflow_add-x-in-Next
 overflow_add-x-in-Next c = let x = c.args in
     let h = head-bound (file_of x.rules.now x.goal.now x.terms.now x.x.source) _ x.x c.part-s.ensures c.in-Next.n (past_next c.in-Next.is c.past.ensures) in
     let l = file-length x.rules.now x.goal.now x.terms.now x.x.source in
-    let g = c.well-formed in
+    let g = c.well_formed in
     record { fits = omega (arith, h.1, l, g) }
 
 pub returns-in-Nothing : goal.returns-in-Nothing

@@ -46,13 +46,13 @@ returns-then-end-w c = let x = c.args in
     absurd (omega (arith, end-above u p _ c.follow.ensures.0 c.part-clause.ensures z))
 
 pub shape_of-room : goal.shape_of-room
-shape_of-room c = c.follow.auto.1.1.1.0 ∙ c.open-clause.auto.0
+shape_of-room c = c.follow.auto.1.1.1.0 ∙ c.open_clause.auto.0
 
 pub returns : goal.returns
 returns c = let x = c.before.args in
     λ ds us at steps more o d bs a u.
-    let p = opened-clause u.place x.k _ c.x.given.0.0 (opened-as x.room.now _ x.k x.w.supposed x.w.top c.open_clause-arg-1.result _ c.x.given.1 c.open_clause-arg-1.ensures) in
-    let z = reaches-as _ _ us o (follow (listed us) o p.hand.clause p.hand.bindings steps) c.x.given.0.0.base c.struct_known-1.result _ c.left.given.1 (c.struct_known-1.ensures.1 (files_of x.rules.now x.goal.now x.terms.now) ds us o c.x.given.0.0.base c.x.given.0.0.count p.hand.clause p.hand.bindings steps u.place.openly (open-following u p _ c.in-Clause.known_told-1-own.ensures)) in
-    use-says u p _ c.struct_known-1.ensures.0 c.in-Clause.known_told-1-own.ensures z
+    let p = opened-clause u.place x.k _ c.in-Clause.x (opened-as x.room.now _ x.k x.w.supposed x.w.top c.open_clause.result _ c.in-Clause.is c.open_clause.ensures) in
+    let z = reaches-as _ _ us o (follow (listed us) o p.hand.clause p.hand.bindings steps) c.in-Clause.x.base c.follow.result _ c.in-At.is (c.follow.ensures.1 (files_of x.rules.now x.goal.now x.terms.now) ds us o c.in-Clause.x.base c.in-Clause.x.count p.hand.clause p.hand.bindings steps u.place.openly (open-following u p _ c.part-clause.ensures)) in
+    use-says u p _ c.follow.ensures.0 c.part-clause.ensures z
     (c.conclude.ensures ds us at x.k steps more o d bs a z.last z.bindings
-    (use-end u p _ c.struct_known-1.ensures.0 c.in-Clause.known_told-1-own.ensures z _ (ap length c.in-At.known_told-in-At-1-own.ensures) c.follow.auto.1.1.1.0))
+    (use-end u p _ c.follow.ensures.0 c.part-clause.ensures z _ (ap length c.part-whole.ensures) c.follow.auto.1.1.1.0))
