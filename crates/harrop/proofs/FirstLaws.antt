@@ -68,6 +68,7 @@ module _ {Q : Type 0} (cs : Candidates Q) where
   parts-least : {h : ℕ} {places : List (Place Q)} {ps rs : List Strip} → ((pl : Place Q) (P R : Strip) → First cs h pl P → ProvesAt cs pl R → height R ≤ h → Earlier R P → ⊥) → FirstParts cs h places ps → EachProves cs places rs → Low h rs → EarlierParts rs ps → ⊥
   parts-least ih (more_parts {pl = pl} {P = P} a w) (and-more {P = R} t each) low (this-part b) = ih pl P R a t low.0 b
   parts-least ih (more_parts a w) (and-more t each) low (next-part b) = parts-least ih w each low.1 b
+  parts-least ih no-parts _ low b = elim b [ ]
 
   -- no proof within the height is before the first
   pub none-before-the-first : (h : ℕ) (pl : Place Q) (P R : Strip) → First cs h pl P → ProvesAt cs pl R → height R ≤ h → Earlier R P → ⊥

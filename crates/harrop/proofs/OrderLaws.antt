@@ -46,6 +46,7 @@ path-order-carries (this-step (lower {i = i} a)) (this-step (lower {j = j} b)) =
 path-order-carries (this-step a) (next-step b) = this-step a
 path-order-carries (next-step a) (this-step b) = this-step b
 path-order-carries (next-step a) (next-step b) = next-step (path-order-carries a b)
+path-order-carries (this-step l-r) (this-step b) = elim b [ ]
 
 pub option-order-carries : {x y z : Chosen} → OptionBefore x y → OptionBefore y z → OptionBefore x z
 option-order-carries (by-candidate {i = i} a) (by-candidate {j = j} b) = by-candidate {i = i} {j = j} (omega arith)
@@ -53,6 +54,7 @@ option-order-carries (by-clause {k = k} a) (by-clause {m = m} b) = by-clause {k 
 option-order-carries (by-clause a) (by-path b) = by-clause a
 option-order-carries (by-path a) (by-clause b) = by-clause b
 option-order-carries (by-path a) (by-path b) = by-path (path-order-carries a b)
+option-order-carries left-right b = elim b [ ]
 
 mutual
   pub order-carries : {P R S : Strip} → Earlier P R → Earlier R S → Earlier P S

@@ -132,6 +132,7 @@ module _ {Q : Type 0} (cs : Candidates Q) where
     where
       at-l : (way path : List Step) (x : End Q) → ((path : List Step) (x : End Q) → PathBefore path way → Reaches cs o c bs path x → try (Step.l ∷ path) x ≡ none) → PathBefore path (Step.l ∷ way) → Reaches cs o (Clause.and_d c d) bs path x → try path x ≡ none
       at-l way path x f (next-step {path = p} s) (by-l r) = f p x s r
+      at-l way _ x f (this-step s) _ = elim s [ ]
 
       at-r : (way path : List Step) (x : End Q) → first_path cs o c bs (λ path x. try (Step.l ∷ path) x) ≡ none → ((path : List Step) (x : End Q) → PathBefore path way → Reaches cs o d bs path x → try (Step.r ∷ path) x ≡ none) → PathBefore path (Step.r ∷ way) → Reaches cs o (Clause.and_d c d) bs path x → try path x ≡ none
       at-r way path x n f (this-step l-r) (by-l r) = path-none (λ path x. try (Step.l ∷ path) x) r n
