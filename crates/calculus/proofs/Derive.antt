@@ -29,6 +29,7 @@ module _ {Q : Type 0} where
   open-at-most : (o : List Q) (k : ℕ) (q : Q) → Memᴰ (k, q) (parameters_of o) → k ≤ length o
   open-at-most (p ∷ o) k q (Memᴰ.head e) = let h = ap (λ (x : ℕ × Q). x.0) e in omega arith
   open-at-most (p ∷ o) k q (Memᴰ.tail m) = let h = open-at-most o k q m in omega arith
+  open-at-most [] k q x' = elim x' [ ]
 
   pub next-fresh : (Y : Symbols Q) (o : List Q) → Fresh (signature_at Y o) (suc (length o))
   next-fresh Y o q m = let h = open-at-most o (suc (length o)) q m in omega arith
