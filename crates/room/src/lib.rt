@@ -1,5 +1,6 @@
 // The work room: its words, bindings in frames, the parts of the files that spots name, and supposed clauses (document 01, "When a strip fits", "Sizes").
 #![tactic(auto)]
+
 mod file;
 mod frame;
 mod words;

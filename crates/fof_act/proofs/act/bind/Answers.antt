@@ -14,7 +14,7 @@ pub returns-in-Implies : goal.returns-in-Implies
 returns-in-Implies c = let a = c.args in bind-same a.names.now a.bound a.at c.in-Implies.is (λ _ _. refl)
 
 pub returns-in-Binds : goal.returns-in-Binds
-returns-in-Binds c = let a = c.args in bind-more a.names.now c.enter.new.0 a.bound a.at c.in-Binds.is c.enter.ensures c.one_more.ensures
+returns-in-Binds c = let a = c.args in bind-more a.names.now c.enter.new.s a.bound a.at c.in-Binds.is c.enter.ensures c.one_more.ensures
 
 pub returns-in-Top : goal.returns-in-Top
 returns-in-Top c = let a = c.args in bind-same a.names.now a.bound a.at c.in-Top.is (λ _ _. refl)

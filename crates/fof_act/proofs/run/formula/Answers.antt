@@ -7,7 +7,7 @@ use borrow.Author.Rules.{rules}
 use Rattle.fof_act.proofs.run.formula.Goals as goal
 
 pub loop-n-init : goal.loop-n-init
-loop-n-init c = let a = c.args in runs-first a.text.now c.push-top.new.0 a.names.now a.buf.now (record { ok = true; at = a.at; top = c.push-top.result; bound = 0; pen = a.pen }) 98400
+loop-n-init c = let a = c.args in runs-first a.text.now c.push-top.new.stack a.names.now a.buf.now (record { ok = true; at = a.at; top = c.push-top.result; bound = 0; pen = a.pen }) 98400
 
 pub shape_of-stack-then-left-eq0 : goal.shape_of-stack-then-left-eq0
 shape_of-stack-then-left-eq0 c = c.loop-n.invariant.kept.stack ∙ c.push-top.ensures.long

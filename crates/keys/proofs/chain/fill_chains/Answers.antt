@@ -4,4 +4,4 @@ use borrow.Author.Rules.{rules}
 use Rattle.keys.proofs.chain.fill_chains.Goals as goal
 
 pub returns : goal.returns
-returns c = let x = c.args in chains-filled x.numbers x.links x.n x.room.now c.clear_chains.new.0 c.link_all.new.0 c.clear_chains.ensures c.link_all.ensures
+returns c = let x = c.args in chains-filled x.numbers x.links x.n x.room.now c.clear_chains.new.room c.link_all.new.room c.clear_chains.ensures c.link_all.ensures

@@ -7,7 +7,7 @@ pub returns-then-first-gt2048 : goal.returns-then-first-gt2048
 returns-then-first-gt2048 c =
     let x = c.args in
     let m = c.measure-first in
-    drawn-again x.height x.rules.now x.goal.now x.terms.now x.room.now m.new.1.1.1.1.1.0 _ m.new.1.1.1.1.0 x.strip.now m.result m.ensures c.write_long.new.1.1.1.1.0 c.write_long.result c.write_long.ensures
+    drawn-again x.height x.rules.now x.goal.now x.terms.now x.room.now m.new.1.1.1.1.1.0 _ m.new.1.1.1.1.0 x.strip.now m.result m.ensures c.write_long.new.room.1.1.1.0 c.write_long.result c.write_long.ensures
 
 pub returns : goal.returns
 returns c =

@@ -20,4 +20,4 @@ returns-in-Never c = let x = c.before.args in
 
 pub returns-else-not-may_use : goal.returns-else-not-may_use
 returns-else-not-may_use c = let x = c.before.args in
-    variable-set {f = files_of x.rules.now x.goal.now x.terms.now} {room = x.room.now} {w = x.w} {p = x.p} {y = x.y} x.v c.candidate_at.ensures c.in-Candidate.c c.in-Candidate.is c.may_use.ensures {after = c.push.new.0} (not-false c.may_use.result c.if-not-may_use.false-raw) c.word_of.ensures c.push.ensures
+    variable-set {f = files_of x.rules.now x.goal.now x.terms.now} {room = x.room.now} {w = x.w} {p = x.p} {y = x.y} x.v c.candidate_at.ensures c.in-Candidate.c c.in-Candidate.is c.may_use.ensures {after = c.push.new.room} (not-false c.may_use.result c.if-not-may_use.false-raw) c.word_of.ensures c.push.ensures

@@ -13,7 +13,7 @@ loop-v-init c = let x = c.args in (omega arith, unset-start x.room.now x.x)
 pub loop-v-preserved : goal.loop-v-preserved
 loop-v-preserved c = let x = c.args in
     let l = c.loop-v in
-    (omega arith, unset-more x.room.now l.room c.push.new.0 x.x l.v c.word_of.result (omega arith) c.word_of.ensures c.push.ensures l.invariant.1)
+    (omega arith, unset-more x.room.now l.room c.push.new.room x.x l.v c.word_of.result (omega arith) c.word_of.ensures c.push.ensures l.invariant.1)
 
 pub shape_of-room : goal.shape_of-room
 shape_of-room c = c.loop-v.invariant.1.long

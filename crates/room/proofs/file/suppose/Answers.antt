@@ -10,10 +10,10 @@ use Rattle.room.proofs.file.suppose.Goals as goal
 pub returns-then-m-lt63 : goal.returns-then-m-lt63
 returns-then-m-lt63 c = let x = c.args in
     let i = 770 + 5 * x.m in
-    let r₁ = c.put.new.0 in
-    let r₂ = c.put-then-m-lt63.new.0 in
-    let r₃ = c.put-then-m-lt63-2.new.0 in
-    four-stored x.room.now r₁ r₂ r₃ c.put-then-m-lt63-3.new.0 i _ _ _ _
+    let r₁ = c.put.new.room in
+    let r₂ = c.put-then-m-lt63.new.room in
+    let r₃ = c.put-then-m-lt63-2.new.room in
+    four-stored x.room.now r₁ r₂ r₃ c.put-then-m-lt63-3.new.room i _ _ _ _
     (c.put.ensures ∙ ap (set x.room.now i) c.source_number.ensures)
     (c.put-then-m-lt63.ensures ∙ ap (set r₁ (i + 1)) c.hold.ensures)
     (c.put-then-m-lt63-2.ensures ∙ ap (set r₂ (i + 2)) c.hold-then-m-lt63.ensures)

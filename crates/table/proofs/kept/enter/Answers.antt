@@ -18,14 +18,14 @@ shape_of-room c = c.copy.auto.0 ∙ c.put-8.auto.0 ∙ c.put-7.auto.0 ∙ c.put-
 
 pub returns : goal.returns
 returns c = let x = c.args in let a = x.at in let room = x.room.now in
-    let r0 = c.put.new.0 in
-    let r1 = c.put-2.new.0 in
-    let r2 = c.put-3.new.0 in
-    let r3 = c.put-4.new.0 in
-    let r4 = c.put-5.new.0 in
-    let r5 = c.put-6.new.0 in
-    let r6 = c.put-7.new.0 in
-    let r7 = c.put-8.new.0 in
+    let r0 = c.put.new.room in
+    let r1 = c.put-2.new.room in
+    let r2 = c.put-3.new.room in
+    let r3 = c.put-4.new.room in
+    let r4 = c.put-5.new.room in
+    let r5 = c.put-6.new.room in
+    let r6 = c.put-7.new.room in
+    let r7 = c.put-8.new.room in
     λ h. c.copy.ensures
     ∙ entered-is room r7 x.x x.supposed x.parameters a _
     (eight-stored room r0 r1 r2 r3 r4 r5 r6 r7 a _ _ _ _ _ _ _ _

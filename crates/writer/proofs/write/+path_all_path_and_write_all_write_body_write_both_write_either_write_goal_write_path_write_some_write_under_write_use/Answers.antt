@@ -30,7 +30,7 @@ path_all-shape_of-room t c = c.write_path.auto.1.1.1.0 ∙ (c.push.auto.0 ∙ c.
 pub path_all-returns : goal.path_all-returns
 path_all-returns t c = let x = c.args in
     let i = c.number_through-i.result in
-    pathing.all-with x.nest i x.located c.number_through-i.ensures c.number_through-i.auto.1.1.1.0 c.put_number-m.ensures c.deeper.ensures (pathing.pathing-from (c.push.ensures ∙ ap (λ (j : ℕ). set c.number_through-i.new.1.1.1.0 j (held (binding_word (Candidate i)))) c.plus.ensures) (pathing.pathing-lent c.cut-from.ensures c.behind.ensures c.write_path.ensures))
+    pathing.all-with x.nest i x.located c.number_through-i.ensures c.number_through-i.auto.1.1.1.0 c.put_number-m.ensures c.deeper.ensures (pathing.pathing-from (c.push.ensures ∙ ap (λ (j : ℕ). set c.number_through-i.new.room.1.1.0 j (held (binding_word (Candidate i)))) c.plus.ensures) (pathing.pathing-lent c.cut-from.ensures c.behind.ensures c.write_path.ensures))
 
 pub path_and-returns-in_default : goal.path_and-returns-in_default
 path_and-returns-in_default t c = pathing.and-lost c.args.nest c.past_part.ensures c.in_default.is
@@ -73,7 +73,7 @@ pub write_both-shape_of-room : goal.write_both-shape_of-room
 write_both-shape_of-room t c = c.write_goal-2.auto.1.1.1.0 ∙ c.write_goal.auto.1.1.1.0
 
 pub write_both-shape_of-strip : goal.write_both-shape_of-strip
-write_both-shape_of-strip t c = c.close.auto.0 ∙ (pathing.lent_length c.cut-from-2.result c.behind-a.result.at (put_mid c.cut-from.result (length c.put-m.new.0 - c.cut-from.result) c.put-m.new.0 c.write_goal.new.1.1.1.1.0) c.write_goal-2.new.1.1.1.1.0 c.cut-from-2.ensures c.write_goal-2.auto.1.1.1.1.0 ∙ (pathing.lent_length c.cut-from.result c.put-m.result c.put-m.new.0 c.write_goal.new.1.1.1.1.0 c.cut-from.ensures c.write_goal.auto.1.1.1.1.0 ∙ c.put-m.auto.0))
+write_both-shape_of-strip t c = c.close.auto.0 ∙ (pathing.lent_length c.cut-from-2.result c.behind-a.result.at (put_mid c.cut-from.result (length c.put-m.new.buf - c.cut-from.result) c.put-m.new.buf c.write_goal.new.strip.1.1.1.0) c.write_goal-2.new.strip.1.1.1.0 c.cut-from-2.ensures c.write_goal-2.auto.1.1.1.1.0 ∙ (pathing.lent_length c.cut-from.result c.put-m.result c.put-m.new.buf c.write_goal.new.strip.1.1.1.0 c.cut-from.ensures c.write_goal.auto.1.1.1.1.0 ∙ c.put-m.auto.0))
 
 pub write_both-returns : goal.write_both-returns
 write_both-returns t c = writing.both-drawn c.past_part.ensures c.in-Next.is c.put-m.ensures c.within.ensures (pathing.writing-lent c.cut-from.ensures c.behind-a.ensures c.write_goal.ensures) c.write_goal.auto.1.1.1.0 c.within-2.ensures (pathing.writing-lent c.cut-from-2.ensures c.behind-b.ensures c.write_goal-2.ensures) c.beside.ensures c.close.ensures
@@ -166,7 +166,7 @@ pub write_some-shape_of-room : goal.write_some-shape_of-room
 write_some-shape_of-room t c = c.write_goal.auto.1.1.1.0 ∙ (c.push.auto.0 ∙ c.first_with-i.auto.1.1.1.0)
 
 pub write_some-shape_of-strip : goal.write_some-shape_of-strip
-write_some-shape_of-strip t c = c.close.auto.0 ∙ (pathing.lent_length c.cut-from.result c.put_number-m.result c.put_number-m.new.0 c.write_goal.new.1.1.1.1.0 c.cut-from.ensures c.write_goal.auto.1.1.1.1.0 ∙ (c.put_number-m.auto.0 ∙ c.put-m.auto.0))
+write_some-shape_of-strip t c = c.close.auto.0 ∙ (pathing.lent_length c.cut-from.result c.put_number-m.result c.put_number-m.new.buf c.write_goal.new.strip.1.1.1.0 c.cut-from.ensures c.write_goal.auto.1.1.1.1.0 ∙ (c.put_number-m.auto.0 ∙ c.put-m.auto.0))
 
 pub write_some-returns : goal.write_some-returns
 write_some-returns t c = writing.some-drawn c.first_with-i.result c.first_with-i.ensures c.first_with-i.auto.1.1.1.0 c.put-m.ensures c.put_number-m.ensures c.bound.ensures (writing.writing-from c.push.ensures (pathing.writing-lent c.cut-from.ensures c.behind-a.ensures c.write_goal.ensures)) c.close.ensures
@@ -196,7 +196,7 @@ pub write_use-shape_of-room : goal.write_use-shape_of-room
 write_use-shape_of-room t c = c.write_path.auto.1.1.1.0 ∙ (c.open_clause.auto.0 ∙ c.first_clause-k.auto.1.1.1.0)
 
 pub write_use-shape_of-strip : goal.write_use-shape_of-strip
-write_use-shape_of-strip t c = c.close.auto.0 ∙ (pathing.lent_length c.cut-from.result c.put-m-2.result c.put-m-2.new.0 c.write_path.new.1.1.1.1.0 c.cut-from.ensures c.write_path.auto.1.1.1.1.0 ∙ (c.put-m-2.auto.0 ∙ (c.put_number-m.auto.0 ∙ c.put-m.auto.0)))
+write_use-shape_of-strip t c = c.close.auto.0 ∙ (pathing.lent_length c.cut-from.result c.put-m-2.result c.put-m-2.new.buf c.write_path.new.strip.1.1.1.0 c.cut-from.ensures c.write_path.auto.1.1.1.1.0 ∙ (c.put-m-2.auto.0 ∙ (c.put_number-m.auto.0 ∙ c.put-m.auto.0)))
 
 pub write_use-returns : goal.write_use-returns
 write_use-returns t c = pathing.use-drawn c.first_clause-k.result c.first_clause-k.ensures.0 c.first_clause-k.auto.1.1.1.0 c.first_clause-k.ensures.1 c.open_clause.ensures c.in-Clause.is c.is_plain-located.ensures c.put-m.ensures c.put_number-m.ensures c.put-m-2.ensures (pathing.pathing-lent c.cut-from.ensures c.behind-a.ensures c.write_path.ensures) c.close.ensures
