@@ -22,7 +22,7 @@ use Rattle.fof_truth.specs.Formula.{Formula, Role, Line}
 use Rattle.fof_truth.specs.Truth.{Logic, Structure, truth, plain_truth}
 use Rattle.fof_truth.specs.Sentence.{as_goal, as_clause, Sentence, sentence_formula, in_role, sentence_of}
 use Rattle.fof_truth.specs.Part.{axiom_then, axioms, conjecture_then, conjectures, BookInPart}
-use Rattle.fof_truth.specs.Book.{sentences_of, rules_in, goals_in, only_one_lem, Book, with_goal, book_in, rules_file, goal_file, Why, Outcome, is_many, is_deep, is_long, sized, book_of}
+use Rattle.fof_truth.specs.Book.{sentences_of, rules_in, goals_in, only_one, Book, with_goal, book_in, rules_file, goal_file, Why, Outcome, is_many, is_deep, is_long, sized, book_of}
 use Rattle.fof_truth.specs.Meaning.{Few, Flat, Short, Becomes, Means, outside, too_many, too_deep, too_long, written}
 use Rattle.fof_truth.proofs.SentenceLaws.{one-some, two-some, turned}
 use Rattle.fof_truth.proofs.TruthLaws.{what-is-written-is-as-true}
@@ -147,7 +147,7 @@ module _ (ls : List Line) (a c : ℕ) where
   pub any-two-outcomes-are-equal : (o p : Outcome) → Means ls a c o → Means ls a c p → o ≡ p
   any-two-outcomes-are-equal o p h k = sym (book-only o h) ∙ book-only p k
 
-pub only-is : (gs : List (Goal Plain)) (g : Goal Plain) → only_one_lem gs ≡ some g → gs ≡ g ∷ []
+pub only-is : (gs : List (Goal Plain)) (g : Goal Plain) → only_one gs ≡ some g → gs ≡ g ∷ []
 only-is [] g e = nope e
 only-is (h ∷ []) g e = ap (λ x. x ∷ []) (some-injective h g e)
 only-is (h ∷ k ∷ gs) g e = nope e
@@ -192,6 +192,6 @@ module _ (L : Logic) (S : Structure L.Value) (π : ℕ → S.Domain) (ρ : Name 
   pub book-is-as-true : (ls : List Line) (b : Book) → Becomes ls b → (map (truth L S ρ) (axioms ls) ≡ rule_truths b.rules) × (map (truth L S ρ) (conjectures ls) ≡ goal_truths (b.goal ∷ []))
   book-is-as-true ls b e =
       let (ss, h, r) = bind-some (sentences_of ls) with_goal b e in
-      let t = one-some (only_one_lem (goals_in ss)) (λ g. record { rules = rules_in ss; goal = g }) b r in
+      let t = one-some (only_one (goals_in ss)) (λ g. record { rules = rules_in ss; goal = g }) b r in
       let (x, y) = sentences-kept ls ss h in
       (x ∙ ap (λ z. rule_truths z.rules) t.makes, y ∙ ap goal_truths (only-is (goals_in ss) t.first t.is_first) ∙ ap (λ z. goal_truths (z.goal ∷ [])) t.makes)

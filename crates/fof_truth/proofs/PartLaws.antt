@@ -22,7 +22,7 @@ use Rattle.fof_truth.specs.Formula.{Term, Terms, Formula, Role, Line}
 use Rattle.fof_truth.specs.Numbered.{Scope, number_of, term_in, terms_in, formula_in}
 use Rattle.fof_truth.specs.Sentence.{as_atom, as_goal, as_clause, Sentence, in_role, sentence_of}
 use Rattle.fof_truth.specs.Part.{TermBound, TermsBound, Bound, TermNamed, TermsNamed, Named, IsAtom, IsGoal, IsClause, Fits, InPart, conjecture_then, conjectures, BookInPart}
-use Rattle.fof_truth.specs.Book.{sentences_of, rules_in, goals_in, only_one_lem, with_goal, book_in}
+use Rattle.fof_truth.specs.Book.{sentences_of, rules_in, goals_in, only_one, with_goal, book_in}
 use Rattle.fof_truth.proofs.SentenceLaws.{one-some, two-some, turned}
 
 -- there is an answer
@@ -228,7 +228,7 @@ goals-counted (l ∷ ls) ss e =
     ap (λ x. length (goals_in x)) (sym t.makes)
     ∙ goal-counted l.role l.formula u.formula t.first u.read t.second (conjectures ls) (goals-counted ls t.second t.is_second)
 
-only_one_lem : (gs : List (Goal Plain)) → Has (only_one_lem gs) ↔ (length gs ≡ 1)
+only_one_lem : (gs : List (Goal Plain)) → Has (only_one gs) ↔ (length gs ≡ 1)
 only_one_lem [] = (λ (g, e). nope e, λ e. absurd (omega arith))
 only_one_lem (g ∷ []) = (λ h. refl, λ e. (g, refl))
 only_one_lem (g ∷ h ∷ gs) = (λ (x, e). nope e, λ e. absurd (omega arith))
@@ -240,7 +240,7 @@ book-exactly ls = (there, back)
     there : Has (book_in ls) → BookInPart ls
     there (b, e) =
         let (ss, h, r) = bind-some (sentences_of ls) with_goal b e in
-        let t = one-some (only_one_lem (goals_in ss)) (λ g. record { rules = rules_in ss; goal = g }) b r in
+        let t = one-some (only_one (goals_in ss)) (λ g. record { rules = rules_in ss; goal = g }) b r in
         record { lines = (sentences-exactly ls).0 (ss, h); one = sym (goals-counted ls ss h) ∙ (only_one_lem (goals_in ss)).0 (t.first, t.is_first) }
 
     back : BookInPart ls → Has (book_in ls)

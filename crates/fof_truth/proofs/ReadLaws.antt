@@ -30,7 +30,7 @@ use Rattle.calculus.specs.Translation.{goal_formula, clause_formula}
 use Rattle.fof_truth.specs.Formula.{Term, Terms, Formula, Line}
 use Rattle.fof_truth.specs.Numbered.{Scope, number_of, term_in, terms_in, formula_in}
 use Rattle.fof_truth.specs.Sentence.{Sentence, sentence_formula, sentence_of}
-use Rattle.fof_truth.specs.Book.{sentences_of, rules_in, goals_in, only_one_lem, Book, with_goal, rules_file, goal_file, Outcome, book_of}
+use Rattle.fof_truth.specs.Book.{sentences_of, rules_in, goals_in, only_one, Book, with_goal, rules_file, goal_file, Outcome, book_of}
 use Rattle.fof_truth.specs.Meaning.{Few, Flat, Short, Becomes, Means, written}
 use Rattle.fof_truth.proofs.SentenceLaws.{one-some, two-some, sentence-is, turned}
 use Rattle.fof_truth.proofs.BookLaws.{outcome-exactly, only-is}
@@ -205,7 +205,7 @@ sentences-good (l ∷ ls) ss e =
 book-good : (ls : List Line) (b : Book) → Becomes ls b → Each RuleGood b.rules × GoalGood b.goal
 book-good ls b e =
     let (ss, h, r) = bind-some (sentences_of ls) with_goal b e in
-    let t = one-some (only_one_lem (goals_in ss)) (λ g. record { rules = rules_in ss; goal = g }) b r in
+    let t = one-some (only_one (goals_in ss)) (λ g. record { rules = rules_in ss; goal = g }) b r in
     let (x, y) = sentences-good ls ss h in
     let z : Each GoalGood (t.first ∷ []) = subst (Each GoalGood) (only-is (goals_in ss) t.first t.is_first) y in
     (subst (λ (w : Book). Each RuleGood w.rules) t.makes x, subst (λ (w : Book). GoalGood w.goal) t.makes z.0)

@@ -28,17 +28,17 @@ goals_in (Sentence.rule d ∷ ss) = goals_in ss
 goals_in (Sentence.goal g ∷ ss) = g ∷ goals_in ss
 
 -- the one goal, where there is exactly one
-abbrev pub only_one_lem : List (Goal Plain) → Option (Goal Plain)
-only_one_lem [] = none
-only_one_lem (g ∷ []) = some g
-only_one_lem (g ∷ h ∷ gs) = none
+abbrev pub only_one : List (Goal Plain) → Option (Goal Plain)
+only_one [] = none
+only_one (g ∷ []) = some g
+only_one (g ∷ h ∷ gs) = none
 
 pub record Book : Type 0 where
   pub rules : List (Clause Plain)
   pub goal : Goal Plain
 
 abbrev pub with_goal : List Sentence → Option Book
-with_goal ss = only_one_lem (goals_in ss) >>= λ g. some (record { rules = rules_in ss; goal = g })
+with_goal ss = only_one (goals_in ss) >>= λ g. some (record { rules = rules_in ss; goal = g })
 
 -- the book that the lines are
 abbrev pub book_in : List Line → Option Book

@@ -1,6 +1,5 @@
 -- Whether a list may end, by what is due.
 use mathlib.Core.Path.{sym, ap}
-use borrow.Author.Rules.{rules}
 use Rattle.packet.specs.Table.{may_end}
 use Rattle.rows.proofs.table.may_end.Goals as goal
 

@@ -1,6 +1,5 @@
 -- The next member that is due, by what is due.
 use mathlib.Core.Path.{sym, ap}
-use borrow.Author.Rules.{rules}
 use Rattle.packet.specs.declared.Due.{Due}
 use Rattle.rows.specs.Rows.{follows_of}
 use Rattle.packet.specs.Table.{next}

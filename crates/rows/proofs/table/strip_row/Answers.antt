@@ -1,6 +1,5 @@
 -- What is due after a word of the kind `Strip`: each arm is a row of the table, and every other word has none.
 use mathlib.Core.Path.{refl, sym, ap}
-use borrow.Author.Rules.{rules}
 use Rattle.packet.specs.declared.Word.{Word}
 use Rattle.packet.specs.declared.Kind.TheVariants as K
 use Rattle.rows.specs.Rows.{row_of}

@@ -1,6 +1,6 @@
 -- What is due after a word of the kind `Terms`: each arm is a row of the table, and every other word has none.
 use mathlib.Core.Path.{refl, sym, ap}
-use borrow.Author.Rules.{rules}
+use borrow.Enum.Refused.{opened}
 use Rattle.packet.specs.declared.Word.{Word}
 use Rattle.packet.specs.declared.Kind.TheVariants as K
 use Rattle.rows.specs.Rows.{row_of}
@@ -14,4 +14,4 @@ returns-in-Terms c = sym (ap (λ (w : Word). row_of (due_after K.Terms w)) c.in-
 
 pub returns-in_default : goal.returns-in_default
 unfolding rows rank
-returns-in_default c = no_row K.Terms c.args.w c.in_default.in_default-own.keys2 refl
+returns-in_default c = no_row K.Terms c.args.w (opened c.in_default.in_default-own.keys2) refl
