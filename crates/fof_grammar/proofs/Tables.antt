@@ -197,13 +197,13 @@ row_table =
     ++ octets "2^?########"
 
 -- two alternatives, symbol by symbol
-abbrev same_row_lem : List (Symbol Terminal Name) → List (Symbol Terminal Name) → Bool
-same_row_lem [] [] = true
-same_row_lem [] (y ∷ ys) = false
-same_row_lem (x ∷ xs) [] = false
-same_row_lem (x ∷ xs) (y ∷ ys) = same_symbol code ordinal choices x y && same_row_lem xs ys
+abbrev same_row : List (Symbol Terminal Name) → List (Symbol Terminal Name) → Bool
+same_row [] [] = true
+same_row [] (y ∷ ys) = false
+same_row (x ∷ xs) [] = false
+same_row (x ∷ xs) (y ∷ ys) = same_symbol code ordinal choices x y && same_row xs ys
 
-same_row_lem : (xs ys : List (Symbol Terminal Name)) → same_row_lem xs ys ≡ true → xs ≡ ys
+same_row_lem : (xs ys : List (Symbol Terminal Name)) → same_row xs ys ≡ true → xs ≡ ys
 same_row_lem [] [] e = refl
 same_row_lem [] (y ∷ ys) e = absurd (false≢true e)
 same_row_lem (x ∷ xs) [] e = absurd (false≢true e)
@@ -218,7 +218,7 @@ is_none (some alt) = false
 
 abbrev is_some : Option (List (Symbol Terminal Name)) → List (Symbol Terminal Name) → Bool
 is_some none xs = false
-is_some (some alt) xs = same_row_lem alt xs
+is_some (some alt) xs = same_row alt xs
 
 abbrev right_choice : ℕ → ℕ → Bool
 right_choice i x =

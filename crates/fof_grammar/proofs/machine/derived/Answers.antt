@@ -46,16 +46,16 @@ pub shape_of-stack-then-k : goal.shape_of-stack-then-k
 shape_of-stack-then-k c = c.loop-top.invariant.0 ∙ length-set c.args.stack.now 0 75
 
 pub returns-then-k : goal.returns-then-k
-returns-then-k c = λ w e t. name-fails c.args.codes.now c.loop-top.stack c.loop-top.top c.loop-top.at c.loop-top.invariant.1 c.loop-top-test.true (get_or c.loop-top.stack (c.loop-top.top - 1) 0) refl c.if-s-lt75.false c.decide-k.result c.decide-k.ensures.0 c.if-k.true w e (as-decided t)
+returns-then-k c = λ w e t. name-fails c.args.codes.now c.loop-top.stack c.loop-top.top c.loop-top.at c.loop-top.invariant.1 c.loop-top-test.true (get_or c.loop-top.stack (c.loop-top.top - 1) 0) refl c.if-s-lt75.false c.decide-k.result c.decide-k.ensures.decides c.if-k.true w e (as-decided t)
 
 pub push-top-requires : goal.push-top-requires
-push-top-requires c = ((c.decide-k.ensures.1 c.if-k.false).0, name-room c.args.codes.now c.loop-top.stack c.loop-top.top c.loop-top.at c.loop-top.invariant.1 c.loop-top-test.true (get_or c.loop-top.stack (c.loop-top.top - 1) 0) refl c.if-s-lt75.false c.decide-k.result c.decide-k.ensures.0 (c.decide-k.ensures.1 c.if-k.false).1 c.requires.0 (let k = c.loop-top.invariant.0 ∙ length-set c.args.stack.now 0 75 in let m = c.requires.1 in omega arith))
+push-top-requires c = ((c.decide-k.ensures.one c.if-k.false).0, name-room c.args.codes.now c.loop-top.stack c.loop-top.top c.loop-top.at c.loop-top.invariant.1 c.loop-top-test.true (get_or c.loop-top.stack (c.loop-top.top - 1) 0) refl c.if-s-lt75.false c.decide-k.result c.decide-k.ensures.decides (c.decide-k.ensures.one c.if-k.false).1 c.requires.0 (let k = c.loop-top.invariant.0 ∙ length-set c.args.stack.now 0 75 in let m = c.requires.1 in omega arith))
 
 pub loop-top-smaller : goal.loop-top-smaller
-loop-top-smaller c = (name-next c.args.codes.now c.loop-top.stack c.loop-top.top c.loop-top.at c.loop-top.invariant.1 c.loop-top-test.true (get_or c.loop-top.stack (c.loop-top.top - 1) 0) refl c.if-s-lt75.false c.decide-k.result c.decide-k.ensures.0 (c.decide-k.ensures.1 c.if-k.false).1 c.push-top.new.stack c.push-top.result c.if-k.false c.push-top.ensures).1
+loop-top-smaller c = (name-next c.args.codes.now c.loop-top.stack c.loop-top.top c.loop-top.at c.loop-top.invariant.1 c.loop-top-test.true (get_or c.loop-top.stack (c.loop-top.top - 1) 0) refl c.if-s-lt75.false c.decide-k.result c.decide-k.ensures.decides (c.decide-k.ensures.one c.if-k.false).1 c.push-top.new.stack c.push-top.result c.if-k.false c.push-top.ensures).1
 
 pub loop-top-preserved : goal.loop-top-preserved
-loop-top-preserved c = (c.push-top.auto.0 ∙ c.loop-top.invariant.0, (name-next c.args.codes.now c.loop-top.stack c.loop-top.top c.loop-top.at c.loop-top.invariant.1 c.loop-top-test.true (get_or c.loop-top.stack (c.loop-top.top - 1) 0) refl c.if-s-lt75.false c.decide-k.result c.decide-k.ensures.0 (c.decide-k.ensures.1 c.if-k.false).1 c.push-top.new.stack c.push-top.result c.if-k.false c.push-top.ensures).0)
+loop-top-preserved c = (c.push-top.auto.stack ∙ c.loop-top.invariant.0, (name-next c.args.codes.now c.loop-top.stack c.loop-top.top c.loop-top.at c.loop-top.invariant.1 c.loop-top-test.true (get_or c.loop-top.stack (c.loop-top.top - 1) 0) refl c.if-s-lt75.false c.decide-k.result c.decide-k.ensures.decides (c.decide-k.ensures.one c.if-k.false).1 c.push-top.new.stack c.push-top.result c.if-k.false c.push-top.ensures).0)
 
 pub shape_of-stack : goal.shape_of-stack
 shape_of-stack c = c.loop-top.invariant.0 ∙ length-set c.args.stack.now 0 75

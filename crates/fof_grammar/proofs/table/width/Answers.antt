@@ -2,11 +2,6 @@ use borrow.Author.Rules.{rules}
 use Rattle.fof_grammar.proofs.Tables.{row-filled, row-width}
 use Rattle.fof_grammar.proofs.table.width.Goals as goal
 
--- LEFT
--- src/table.rt:211:10
-array-read-wide : tie.Need-array-read-wide
-array-read-wide c = search rules
-
 pub overflow_sub-wide : goal.overflow_sub-wide
 overflow_sub-wide c = row-filled c.wide.result c.args.k c.wide.ensures c.requires
 
