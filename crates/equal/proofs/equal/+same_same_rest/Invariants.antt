@@ -12,8 +12,8 @@ decreases-same l = 2 * l.nest
 abbrev pub decreases-same_rest : goal.decreases-same_rest
 decreases-same_rest l = 2 * l.nest + 1
 
-abbrev pub invariant-loop-s : goal.invariant-loop-s
-invariant-loop-s l = LeftAt l.rules l.goal l.terms l.room l.x l.y l.nest l.p l.q
+abbrev pub invariant-same_rest-loop-s : goal.invariant-same_rest-loop-s
+invariant-same_rest-loop-s l = LeftAt l.rules l.goal l.terms l.room l.x l.y l.nest l.p l.q
 
-abbrev pub decreases-loop-s : goal.decreases-loop-s
-decreases-loop-s l = length l.s - l.p
+abbrev pub decreases-same_rest-loop-s : goal.decreases-same_rest-loop-s
+decreases-same_rest-loop-s l = length l.s - l.p

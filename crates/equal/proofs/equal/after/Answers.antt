@@ -19,7 +19,7 @@ pub overflow_add-y : goal.overflow_add-y
 overflow_add-y c = let x = c.args in
     let h = after-inside x.rules.now x.goal.now x.terms.now x.x x.y x.from c.part-s.ensures c.part-t.ensures c.same_text.ensures (not-false c.same_text.result c.if-not-same_text.false-raw) c.in-Next.is c.past.ensures in
     let l = file-length x.rules.now x.goal.now x.terms.now x.y.source in
-    let g = c.well-formed in
+    let g = c.well_formed in
     record { fits = omega (arith, h.1, l, g) }
 
 pub returns-in-Nothing : goal.returns-in-Nothing

@@ -18,8 +18,8 @@ decreases-meets l = 2 * l.nest
 abbrev pub decreases-meets_member : goal.decreases-meets_member
 decreases-meets_member l = 2 * l.nest + 1
 
-abbrev pub invariant-loop-x : goal.invariant-loop-x
-invariant-loop-x l = Meeting l.s l.at l.depth l.nest (asked l.own (bindings_at l.room l.x) l.also l.v) (asked l.own (bindings_at l.room l.x) true l.v) l.q l.d l.with
+abbrev pub invariant-meets-loop-x : goal.invariant-meets-loop-x
+invariant-meets-loop-x l = Meeting l.s l.at l.depth l.nest (asked l.own (bindings_at l.room l.x) l.also l.v) (asked l.own (bindings_at l.room l.x) true l.v) l.q l.d l.with
 
-abbrev pub decreases-loop-x : goal.decreases-loop-x
-decreases-loop-x l = length l.s - l.q
+abbrev pub decreases-meets-loop-x : goal.decreases-meets-loop-x
+decreases-meets-loop-x l = length l.s - l.q

@@ -12,8 +12,8 @@ decreases-has_variable l = 2 * l.nest
 abbrev pub decreases-have_variable : goal.decreases-have_variable
 decreases-have_variable l = 2 * l.nest + 1
 
-abbrev pub invariant-loop-at : goal.invariant-loop-at
-invariant-loop-at l = HaveLeft l.s l.at l.nest l.p
+abbrev pub invariant-have_variable-loop-at : goal.invariant-have_variable-loop-at
+invariant-have_variable-loop-at l = HaveLeft l.s l.at l.nest l.p
 
-abbrev pub decreases-loop-at : goal.decreases-loop-at
-decreases-loop-at l = length l.s - l.p
+abbrev pub decreases-have_variable-loop-at : goal.decreases-have_variable-loop-at
+decreases-have_variable-loop-at l = length l.s - l.p

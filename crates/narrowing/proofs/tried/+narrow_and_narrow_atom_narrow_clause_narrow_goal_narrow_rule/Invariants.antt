@@ -30,8 +30,8 @@ decreases-narrow_goal l = 10 * l.height + 5
 abbrev pub decreases-narrow_rule : goal.decreases-narrow_rule
 decreases-narrow_rule l = 10 * l.left + 6
 
-abbrev pub invariant-loop-k : goal.invariant-loop-k
-invariant-loop-k l = (length l.room ≡ length l.initial.room) × (More l.initial.marks l.marks × tried.AtomLeft (files_of l.rules l.goal l.terms) l.initial.room l.w l.own l.v l.left l.marks l.room l.k)
+abbrev pub invariant-narrow_atom-loop-k : goal.invariant-narrow_atom-loop-k
+invariant-narrow_atom-loop-k l = (length l.room ≡ length l.initial.room) × (More l.initial.marks l.marks × tried.AtomLeft (files_of l.rules l.goal l.terms) l.initial.room l.w l.own l.v l.left l.marks l.room l.k)
 
-abbrev pub decreases-loop-k : goal.decreases-loop-k
-decreases-loop-k l = l.n - l.k
+abbrev pub decreases-narrow_atom-loop-k : goal.decreases-narrow_atom-loop-k
+decreases-narrow_atom-loop-k l = l.n - l.k

@@ -91,20 +91,20 @@ decreases-under l = 100000 * l.left + 90000
 abbrev pub decreases-use_clause : goal.decreases-use_clause
 decreases-use_clause l = 100000 * l.left + 80000
 
-abbrev pub invariant-loop-i : goal.invariant-loop-i
-invariant-loop-i l = (l.i ≤ l.n) × ((length l.room ≡ length l.initial.room) × passing.AllLeft (files_of l.rules l.goal l.terms) l.initial.room l.w l.x l.nest l.left l.room l.i)
+abbrev pub invariant-each-loop-i : goal.invariant-each-loop-i
+invariant-each-loop-i l = (l.i ≤ l.n) × ((length l.room ≡ length l.initial.room) × passing.AllLeft (files_of l.rules l.goal l.terms) l.initial.room l.w l.x l.nest l.left l.room l.i)
 
-abbrev pub decreases-loop-i : goal.decreases-loop-i
-decreases-loop-i l = l.n - l.i
+abbrev pub decreases-each-loop-i : goal.decreases-each-loop-i
+decreases-each-loop-i l = l.n - l.i
 
-abbrev pub invariant-loop-k : goal.invariant-loop-k
-invariant-loop-k l = (l.k ≤ l.n) × ((length l.room ≡ length l.initial.room) × atoms.FindLeft (files_of l.rules l.goal l.terms) l.initial.room l.w l.predicate l.key l.left l.room l.k)
+abbrev pub invariant-find_clause-loop-k : goal.invariant-find_clause-loop-k
+invariant-find_clause-loop-k l = (l.k ≤ l.n) × ((length l.room ≡ length l.initial.room) × atoms.FindLeft (files_of l.rules l.goal l.terms) l.initial.room l.w l.predicate l.key l.left l.room l.k)
 
-abbrev pub decreases-loop-k : goal.decreases-loop-k
-decreases-loop-k l = l.n - l.k
+abbrev pub decreases-find_clause-loop-k : goal.decreases-find_clause-loop-k
+decreases-find_clause-loop-k l = l.n - l.k
 
-abbrev pub invariant-loop-i : goal.invariant-loop-i
-invariant-loop-i l = (l.i ≤ l.n) × ((length l.room ≡ length l.initial.room) × tried.EachFrom (files_of l.rules l.goal l.terms) l.initial.room l.w l.p l.v l.left l.marks l.narrowed l.n l.room l.i)
+abbrev pub invariant-try_all-loop-i : goal.invariant-try_all-loop-i
+invariant-try_all-loop-i l = (l.i ≤ l.n) × ((length l.room ≡ length l.initial.room) × tried.EachFrom (files_of l.rules l.goal l.terms) l.initial.room l.w l.p l.v l.left l.marks l.narrowed l.n l.room l.i)
 
-abbrev pub decreases-loop-i : goal.decreases-loop-i
-decreases-loop-i l = l.n - l.i
+abbrev pub decreases-try_all-loop-i : goal.decreases-try_all-loop-i
+decreases-try_all-loop-i l = l.n - l.i

@@ -20,8 +20,8 @@ decreases-bars_at l = 2 * l.nest
 abbrev pub decreases-bars_in : goal.decreases-bars_in
 decreases-bars_in l = 2 * l.nest + 1
 
-abbrev pub invariant-loop-i : goal.invariant-loop-i
-invariant-loop-i l = (xs : Sexps) → Tableds xs → StandsAll l.s l.at xs → nestings xs ≤ l.nest → Going l.s l.nest l.holds l.n (bars_in l.holds l.n l.at xs) l.i
+abbrev pub invariant-bars_in-loop-i : goal.invariant-bars_in-loop-i
+invariant-bars_in-loop-i l = (xs : Sexps) → Tableds xs → StandsAll l.s l.at xs → nestings xs ≤ l.nest → Going l.s l.nest l.holds l.n (bars_in l.holds l.n l.at xs) l.i
 
-abbrev pub decreases-loop-i : goal.decreases-loop-i
-decreases-loop-i l = length l.s - l.i
+abbrev pub decreases-bars_in-loop-i : goal.decreases-bars_in-loop-i
+decreases-bars_in-loop-i l = length l.s - l.i

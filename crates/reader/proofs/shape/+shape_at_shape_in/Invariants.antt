@@ -16,8 +16,8 @@ decreases-shape_at l = 2 * l.nest
 abbrev pub decreases-shape_in : goal.decreases-shape_in
 decreases-shape_in l = 2 * l.nest + 1
 
-abbrev pub invariant-loop-i : goal.invariant-loop-i
-invariant-loop-i l = (xs : Sexps) → StandsAll l.s l.at xs → nestings xs ≤ l.nest → Left l.s l.nest (shape_in l.initial.d l.at xs) l.i l.d
+abbrev pub invariant-shape_in-loop-i : goal.invariant-shape_in-loop-i
+invariant-shape_in-loop-i l = (xs : Sexps) → StandsAll l.s l.at xs → nestings xs ≤ l.nest → Left l.s l.nest (shape_in l.initial.d l.at xs) l.i l.d
 
-abbrev pub decreases-loop-i : goal.decreases-loop-i
-decreases-loop-i l = length l.s - l.i
+abbrev pub decreases-shape_in-loop-i : goal.decreases-shape_in-loop-i
+decreases-shape_in-loop-i l = length l.s - l.i

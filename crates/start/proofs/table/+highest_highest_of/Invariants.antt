@@ -13,8 +13,8 @@ decreases-highest l = 2 * l.nest
 abbrev pub decreases-highest_of : goal.decreases-highest_of
 decreases-highest_of l = 2 * l.nest + 1
 
-abbrev pub invariant-loop-m : goal.invariant-loop-m
-invariant-loop-m l = HighLeft l.s l.at l.nest l.p l.m
+abbrev pub invariant-highest_of-loop-m : goal.invariant-highest_of-loop-m
+invariant-highest_of-loop-m l = HighLeft l.s l.at l.nest l.p l.m
 
-abbrev pub decreases-loop-m : goal.decreases-loop-m
-decreases-loop-m l = length l.s - l.p
+abbrev pub decreases-highest_of-loop-m : goal.decreases-highest_of-loop-m
+decreases-highest_of-loop-m l = length l.s - l.p

@@ -19,7 +19,7 @@ returns-in_default c = let x = c.args in
 pub overflow_add-x : goal.overflow_add-x
 overflow_add-x c = let x = c.args in
     let l = opened_inside x.room.now _ x.k x.w.supposed x.w.top c.in-Clause.x (opened-as x.room.now _ x.k x.w.supposed x.w.top c.open_clause.result _ c.in-Clause.is c.open_clause.ensures) in
-    let g = c.well-formed in
+    let g = c.well_formed in
     record { fits = omega (arith, l, g) }
 
 pub returns-in_default-follow : goal.returns-in_default-follow
