@@ -25,7 +25,7 @@ use Rattle.fof_tokens.proofs.CutsLaws.{longest-filled}
 use Rattle.fof_tokens.proofs.NextLaws.{lexed-right, tokens-next}
 use Rattle.fof_part.specs.Sign.{Sign, code, sign_of, signs}
 use Rattle.fof_pass.specs.declared.ahead.Ahead.{Ahead}
-use Rattle.fof_pass.specs.Ahead.{signs_at, between, name_in_lem, Sees, SeesAll, Aheads}
+use Rattle.fof_pass.specs.Ahead.{signs_at, between, name_in, Sees, SeesAll, Aheads}
 
 -- a token ends behind the offset and in the text
 abbrev Within : Lexed → ℕ → ℕ → Type 0
@@ -46,14 +46,14 @@ within (drops {at = at} {n = n} {t = t} {r = r} l g x) =
 within (takes {at = at} {n = n} {t = t} l i) = (omega (arith, longest-filled t n l), omega (arith, l.within))
 
 -- the name that a sign holds is its token's bytes
-name_in_lem : (k : Kind) (w : List ℕ) → code (sign_of k w) < 2 → w ≡ name_in_lem (sign_of k w)
+name_in_lem : (k : Kind) (w : List ℕ) → code (sign_of k w) < 2 → w ≡ name_in (sign_of k w)
 name_in_lem K.Lower w l = refl
 name_in_lem K.Upper w l = refl
 name_in_lem K.Quoted w l = absurd (omega arith)
 name_in_lem K.Distinct w l = absurd (omega arith)
 name_in_lem K.Dollar w l = go (same_name w (octets "$true")) l
   where
-    go : (b : Bool) → code (choose b Sign.truth Sign.other) < 2 → w ≡ name_in_lem (choose b Sign.truth Sign.other)
+    go : (b : Bool) → code (choose b Sign.truth Sign.other) < 2 → w ≡ name_in (choose b Sign.truth Sign.other)
     go true h = absurd (omega arith)
     go false h = absurd (omega arith)
 name_in_lem K.DoubleDollar w l = absurd (omega arith)

@@ -15,28 +15,28 @@ abbrev pub between : List ℕ → ℕ → ℕ → List ℕ
 between t a b = take (b - a) (drop a t)
 
 -- the name that a sign holds
-abbrev pub name_in_lem : Sign → Name
-name_in_lem (Sign.lower w) = w
-name_in_lem (Sign.upper w) = w
-name_in_lem Sign.truth = []
-name_in_lem Sign.opens = []
-name_in_lem Sign.closes = []
-name_in_lem Sign.lists = []
-name_in_lem Sign.ends = []
-name_in_lem Sign.comma = []
-name_in_lem Sign.colon = []
-name_in_lem Sign.dot = []
-name_in_lem Sign.every = []
-name_in_lem Sign.exist = []
-name_in_lem Sign.both = []
-name_in_lem Sign.either = []
-name_in_lem Sign.then = []
-name_in_lem Sign.other = []
+abbrev pub name_in : Sign → Name
+name_in (Sign.lower w) = w
+name_in (Sign.upper w) = w
+name_in Sign.truth = []
+name_in Sign.opens = []
+name_in Sign.closes = []
+name_in Sign.lists = []
+name_in Sign.ends = []
+name_in Sign.comma = []
+name_in Sign.colon = []
+name_in Sign.dot = []
+name_in Sign.every = []
+name_in Sign.exist = []
+name_in Sign.both = []
+name_in Sign.either = []
+name_in Sign.then = []
+name_in Sign.other = []
 
 -- this sign is ahead of an offset, and these are behind it
 pub record Sees (t : List ℕ) (a : Ahead) (s : Sign) (ss : List Sign) : Type 0 where
   pub number : a.code ≡ code s
-  pub name : a.code < 2 → between t a.start a.end ≡ name_in_lem s
+  pub name : a.code < 2 → between t a.start a.end ≡ name_in s
   pub rest : signs_at t a.end ≡ some ss
 
 abbrev pub SeesAll : List ℕ → Ahead → List Sign → Type 0
