@@ -22,7 +22,7 @@ use Rattle.packet.specs.Sound.{SoundBooks, RefusedBooks, BooksMean}
 use Rattle.packet.proofs.PacketLaws.{books-told, books-only}
 use Rattle.room.specs.Layout.{words}
 use Rattle.drawing.specs.Spelled.{written}
-use Rattle.proposal.specs.Proposed.{most_height, Comes, first_strip, unless_long, of_first, of_books_lem, comes_to}
+use Rattle.proposal.specs.Proposed.{most_height, Comes, first_strip, unless_long, of_first, of_books, comes_to}
 use Rattle.proposal.specs.Meaning.{start, offered, Searched, TheFirst, Provable, Told, no_room, too_high, at_fault, no_proof, too_long, wrote}
 
 -- a strip that is not too long, and one that is
@@ -53,26 +53,26 @@ module _ (h size room : ℕ) (rs gs ts : List ℕ) where
   pub on_room : room < words → comes_to h size room rs gs ts ≡ Comes.refuses R.Room F.None
   unfolding comes_to
   on_room l =
-      ap (λ (t : Bool). choose t (Comes.refuses R.Room F.None) (choose (ltb most_height h) (Comes.refuses R.Height F.None) (of_books_lem h size (books_of rs gs ts)))) (lt-ltb room words l)
+      ap (λ (t : Bool). choose t (Comes.refuses R.Room F.None) (choose (ltb most_height h) (Comes.refuses R.Height F.None) (of_books h size (books_of rs gs ts)))) (lt-ltb room words l)
 
-  once-roomy : words ≤ room → comes_to h size room rs gs ts ≡ choose (ltb most_height h) (Comes.refuses R.Height F.None) (of_books_lem h size (books_of rs gs ts))
+  once-roomy : words ≤ room → comes_to h size room rs gs ts ≡ choose (ltb most_height h) (Comes.refuses R.Height F.None) (of_books h size (books_of rs gs ts))
   unfolding comes_to
   once-roomy l =
-      ap (λ (t : Bool). choose t (Comes.refuses R.Room F.None) (choose (ltb most_height h) (Comes.refuses R.Height F.None) (of_books_lem h size (books_of rs gs ts)))) (le-ltb room words l)
+      ap (λ (t : Bool). choose t (Comes.refuses R.Room F.None) (choose (ltb most_height h) (Comes.refuses R.Height F.None) (of_books h size (books_of rs gs ts)))) (le-ltb room words l)
 
   pub on-height : words ≤ room → most_height < h → comes_to h size room rs gs ts ≡ Comes.refuses R.Height F.None
-  on-height l m = once-roomy l ∙ ap (λ (t : Bool). choose t (Comes.refuses R.Height F.None) (of_books_lem h size (books_of rs gs ts))) (lt-ltb most_height h m)
+  on-height l m = once-roomy l ∙ ap (λ (t : Bool). choose t (Comes.refuses R.Height F.None) (of_books h size (books_of rs gs ts))) (lt-ltb most_height h m)
 
-  pub once-low : words ≤ room → h ≤ most_height → comes_to h size room rs gs ts ≡ of_books_lem h size (books_of rs gs ts)
-  once-low l m = once-roomy l ∙ ap (λ (t : Bool). choose t (Comes.refuses R.Height F.None) (of_books_lem h size (books_of rs gs ts))) (le-ltb most_height h m)
+  pub once-low : words ≤ room → h ≤ most_height → comes_to h size room rs gs ts ≡ of_books h size (books_of rs gs ts)
+  once-low l m = once-roomy l ∙ ap (λ (t : Bool). choose t (Comes.refuses R.Height F.None) (of_books h size (books_of rs gs ts))) (le-ltb most_height h m)
 
   pub on-refused : words ≤ room → h ≤ most_height → (r : Reason) (f : File) (at : ℕ) → books_of rs gs ts ≡ Outcome.refused r f at → comes_to h size room rs gs ts ≡ Comes.refuses r f
-  unfolding of_books_lem
-  on-refused l m r f at e = once-low l m ∙ ap (of_books_lem h size) e
+  unfolding of_books
+  on-refused l m r f at e = once-low l m ∙ ap (of_books h size) e
 
   pub once-read : words ≤ room → h ≤ most_height → (b : Books) → books_of rs gs ts ≡ Outcome.sound b → comes_to h size room rs gs ts ≡ of_first size (first_at (offered b) h (start b))
-  unfolding of_books_lem first_strip
-  once-read l m b e = once-low l m ∙ ap (of_books_lem h size) e
+  unfolding of_books first_strip
+  once-read l m b e = once-low l m ∙ ap (of_books h size) e
 
   -- the answer is what the table says
   of-strip : (b : Books) → Searched h room rs gs ts b → (S : Strip) → TheFirst h b S → Means (unless_long size S)
@@ -86,8 +86,8 @@ module _ (h size room : ℕ) (rs gs ts : List ℕ) where
           let l = leb-false (length (written S)) (min size most_bytes) e in
           subst Means (sym (unless-long size S l)) (too_long s f (either-long size (length (written S)) l))
 
-  of_books_lem : words ≤ room → h ≤ most_height → (o : Outcome Books) → books_of rs gs ts ≡ o → BooksMean rs gs ts o → Means (of_books_lem h size o)
-  unfolding of_books_lem of_first first_strip
+  of_books_lem : words ≤ room → h ≤ most_height → (o : Outcome Books) → books_of rs gs ts ≡ o → BooksMean rs gs ts o → Means (of_books h size o)
+  unfolding of_books of_first first_strip
   of_books_lem l m (Outcome.refused r f at) e k = at_fault l m k
   of_books_lem l m (Outcome.sound b) e k = go (first_at (offered b) h (start b)) refl
     where

@@ -41,15 +41,15 @@ of_first size none = Comes.refuses R.NoProof F.None
 of_first size (some S) = unless_long size S
 
 -- the three files in turn
-unfoldable pub of_books_lem : ℕ → ℕ → Outcome Books → Comes
-of_books_lem h size (Outcome.refused r f at) = Comes.refuses r f
-of_books_lem h size (Outcome.sound b) = of_first size (first_strip h b)
+unfoldable pub of_books : ℕ → ℕ → Outcome Books → Comes
+of_books h size (Outcome.refused r f at) = Comes.refuses r f
+of_books h size (Outcome.sound b) = of_first size (first_strip h b)
 
 -- 11, then 9, before any file is looked at; `size` is the buffer's, `room` the number of words
 unfoldable pub comes_to : ℕ → ℕ → ℕ → List ℕ → List ℕ → List ℕ → Comes
 comes_to h size room rs gs ts =
     choose (ltb room words) (Comes.refuses R.Room F.None)
-    (choose (ltb most_height h) (Comes.refuses R.Height F.None) (of_books_lem h size (books_of rs gs ts)))
+    (choose (ltb most_height h) (Comes.refuses R.Height F.None) (of_books h size (books_of rs gs ts)))
 
 -- the answer; the place is 0 but for number 7, which no search gives
 unfoldable pub proposal : Comes → Proposal

@@ -6,4 +6,4 @@ use Rattle.start.proofs.start.fill_tables.Goals as goal
 pub returns : goal.returns
 returns c =
     let x = c.args in
-    tabled x.rules.now x.terms.now x.room.now c.fill_rules.new.room.0 c.fill_candidates.new.room.0 c.fill_rules.ensures c.fill_candidates.ensures
+    tabled x.rules.now x.terms.now x.room.now c.fill_rules.new.room c.fill_candidates.new.room c.fill_rules.ensures c.fill_candidates.ensures
