@@ -15,4 +15,4 @@ pub returns : goal.returns
 returns c =
     let x = c.args in
     let l = c.if-room-lt8192.false in
-    judgement-long x.rules.now x.goal.now x.terms.now x.strip.now x.room.now c.clear.new.room c.judge_files-v.result l (c.judge_files-v.ensures l) (c.clear.ensures ∙ ap (λ (n : ℕ). replicate n 0) c.judge_files-v.auto.1.1.1.1.0)
+    judgement-long x.rules.now x.goal.now x.terms.now x.strip.now x.room.now c.clear.new.room c.judge_files-v.result l (c.judge_files-v.ensures l) (c.clear.ensures ∙ ap (λ (n : ℕ). replicate n 0) c.judge_files-v.auto.room)

@@ -30,4 +30,4 @@ returns c =
     let m = c.decreases in
     let n = c.reason-n in
     let q = c.pass-p in
-    written-lines x.text.now x.rules.now q.new.1.0 x.goal.now q.new.1.1.0 s.result m.result q.result n.result c.if-text-gt16384.false s.ensures (not-false s.result c.if-not-sound_text.false-raw) m.ensures n.ensures c.if-n-ne0.false q.ensures
+    written-lines x.text.now x.rules.now q.new.rules x.goal.now q.new.goal s.result m.result q.result n.result c.if-text-gt16384.false s.ensures (not-false s.result c.if-not-sound_text.false-raw) m.ensures n.ensures c.if-n-ne0.false q.ensures

@@ -22,13 +22,13 @@ pub returns-in-Top : goal.returns-in-Top
 returns-in-Top c = let a = c.args in write-plain a.text.now a.names.now a.bound a.pen a.a c.in-Top.is (λ _ _. refl) c.top_written.ensures c.done-in-Top.ensures
 
 pub returns-in-Atom : goal.returns-in-Atom
-returns-in-Atom c = let a = c.args in write-named a.text.now a.names.now a.bound a.pen a.a (octets "atom") c.in-Atom.is (λ _ _. refl) (λ _ _ z. z) c.named.auto.1.0 c.named.ensures
+returns-in-Atom c = let a = c.args in write-named a.text.now a.names.now a.bound a.pen a.a (octets "atom") c.in-Atom.is (λ _ _. refl) (λ _ _ z. z) c.named.auto.buf c.named.ensures
 
 pub returns-in-Function : goal.returns-in-Function
-returns-in-Function c = let a = c.args in write-named a.text.now a.names.now a.bound a.pen a.a (octets "f") c.in-Function.is (λ _ _. refl) (λ _ _ z. z) c.named-in-Function.auto.1.0 c.named-in-Function.ensures
+returns-in-Function c = let a = c.args in write-named a.text.now a.names.now a.bound a.pen a.a (octets "f") c.in-Function.is (λ _ _. refl) (λ _ _ z. z) c.named-in-Function.auto.buf c.named-in-Function.ensures
 
 pub returns-in-Variable : goal.returns-in-Variable
-returns-in-Variable c = let a = c.args in write-variable a.text.now a.names.now a.bound a.pen a.a c.in-Variable.is c.variable.auto.1.1.1.0 c.variable.ensures
+returns-in-Variable c = let a = c.args in write-variable a.text.now a.names.now a.bound a.pen a.a c.in-Variable.is c.variable.auto.buf c.variable.ensures
 
 pub returns-in-End : goal.returns-in-End
 returns-in-End c = let a = c.args in write-plain a.text.now a.names.now a.bound a.pen a.a c.in-End.is (λ _ _. refl) c.end.ensures c.done-in-End.ensures

@@ -4,7 +4,7 @@ use borrow.Author.Rules.{rules}
 use Rattle.judge.proofs.request.judge_files.Goals as goal
 
 pub returns : goal.returns
-returns c =
-    let o = c.before.before.before.before.before.before.open-books in
-    let k = o.auto.1.1.0 in
-    (c.before.before.judge-request.ensures o.ensures.found (omega arith) (o.ensures.tables l)).verdict
+returns c l =
+    let o = c.open_books-books in
+    let k = o.auto.room in
+    (c.judge_request.ensures o.ensures.found (omega arith) (o.ensures.tables l)).verdict

@@ -5,16 +5,16 @@ use borrow.Author.Rules.{rules}
 use Rattle.judge.proofs.request.read_files.Goals as goal
 
 pub returns-in-Refused : goal.returns-in-Refused
-returns-in-Refused c = let x = c.before.before.before.before.before.args in by-rules rs x.goal.now ts x.strip.now (sym c.before.first.given.1 ∙ c.rules)
+returns-in-Refused c rs ts f = let x = c.args in by-rules rs x.goal.now ts x.strip.now (sym c.in-Refused.is ∙ f.rules)
 
 pub returns-in-Refused-judge_file : goal.returns-in-Refused-judge_file
-returns-in-Refused-judge_file c = let x = c.before.before.before.before.before.before.before.before.before.args in by-goal rs x.goal.now ts x.strip.now (sym c.before.before.before.before.before.first2.given.1 ∙ c.rules) (sym c.before.why.given.1 ∙ c.before.before.before.judge-file.ensures)
+returns-in-Refused-judge_file c rs ts f = let x = c.args in by-goal rs x.goal.now ts x.strip.now (sym c.in-Sound.is ∙ f.rules) (sym c.in-Refused-judge_file.is ∙ c.judge_file.ensures)
 
 pub returns-in-Refused-third : goal.returns-in-Refused-third
-returns-in-Refused-third c = let x = c.before.before.before.before.before.before.before.before.before.before.before.args in by-terms rs x.goal.now ts x.strip.now (sym c.before.before.before.before.before.before.before.first2.given.1 ∙ c.rules) (sym c.before.before.before.enum_told.given.1 ∙ c.before.before.before.before.before.judge-file.ensures) (sym c.before.third.given.1 ∙ c.terms)
+returns-in-Refused-third c rs ts f = let x = c.args in by-terms rs x.goal.now ts x.strip.now (sym c.in-Sound.is ∙ f.rules) (sym c.in-Sound-judge_file.is ∙ c.judge_file.ensures) (sym c.in-Refused-third.is ∙ f.terms)
 
 pub returns-in-Refused-judge_file-2 : goal.returns-in-Refused-judge_file-2
-returns-in-Refused-judge_file-2 c = let x = c.before.before.before.before.before.before.before.before.before.before.before.before.before.before.before.args in by-strip rs x.goal.now ts x.strip.now (sym c.before.before.before.before.before.before.before.before.before.before.before.first2.given.1 ∙ c.rules) (sym c.before.before.before.before.before.before.before.enum_told.given.1 ∙ c.before.before.before.before.before.before.before.before.before.judge-file.ensures) (sym c.before.before.before.before.before.third2.given.1 ∙ c.terms) (sym c.before.why2.given.1 ∙ c.before.before.before.judge-file2.ensures)
+returns-in-Refused-judge_file-2 c rs ts f = let x = c.args in by-strip rs x.goal.now ts x.strip.now (sym c.in-Sound.is ∙ f.rules) (sym c.in-Sound-judge_file.is ∙ c.judge_file.ensures) (sym c.in-Sound-third.is ∙ f.terms) (sym c.in-Refused-judge_file-2.is ∙ c.judge_file-in-Sound-third.ensures)
 
 pub returns-in-Sound-judge_file-2 : goal.returns-in-Sound-judge_file-2
-returns-in-Sound-judge_file-2 c = let x = c.before.before.before.before.before.before.before.before.before.before.before.before.before.before.args in all_read rs x.goal.now ts x.strip.now (sym c.before.before.before.before.before.before.before.before.before.before.first2.given.1 ∙ c.rules) (sym c.before.before.before.before.before.before.enum_told.given.1 ∙ c.before.before.before.before.before.before.before.before.judge-file.ensures) (sym c.before.before.before.before.third2.given.1 ∙ c.terms) (sym c.enum-told2.given.1 ∙ c.before.before.judge-file2.ensures)
+returns-in-Sound-judge_file-2 c rs ts f = let x = c.args in all_read rs x.goal.now ts x.strip.now (sym c.in-Sound.is ∙ f.rules) (sym c.in-Sound-judge_file.is ∙ c.judge_file.ensures) (sym c.in-Sound-third.is ∙ f.terms) (sym c.in-Sound-judge_file-2.is ∙ c.judge_file-in-Sound-third.ensures)

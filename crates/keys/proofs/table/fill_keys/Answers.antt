@@ -8,4 +8,4 @@ returns c = let x = c.before.before.args in
     let kept = c.keep_candidates in
     let ruled = c.keep_rules in
     let chained = c.fill_chains in
-    keys_filled x.room.now kept.new.1.0 ruled.new.1.0 chained.new.0 c.fill_chains-2.new.room x.rules.now x.terms.now kept.ensures ruled.ensures c.word-n.ensures chained.ensures c.word-m.ensures c.fill_chains-2.ensures
+    keys_filled x.room.now kept.new.room ruled.new.room chained.new.room c.fill_chains-2.new.room x.rules.now x.terms.now kept.ensures ruled.ensures c.word-n.ensures chained.ensures c.word-m.ensures c.fill_chains-2.ensures

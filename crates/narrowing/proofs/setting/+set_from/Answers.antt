@@ -16,7 +16,7 @@ pub returns-in_default : goal.returns-in_default
 returns-in_default t c = from-none c.args.asked
 
 pub shape_of-room : goal.shape_of-room
-shape_of-room t c = c.set_from.auto.1.1.1.0 ∙ c.set_one.auto.1.1.1.0
+shape_of-room t c = c.set_from.auto.room ∙ c.set_one.auto.room
 
 pub returns : goal.returns
 returns t c = from_next c.args.asked c.if-asked-eq0.false c.part-s.ensures c.closes.ensures c.if-closes.false c.past.ensures c.in-Next.is c.further.ensures c.set_one.ensures c.set_from.ensures

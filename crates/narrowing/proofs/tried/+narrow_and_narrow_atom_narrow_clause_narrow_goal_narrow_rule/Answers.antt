@@ -20,19 +20,19 @@ pub narrow_and-narrow_goal-requires : goal.narrow_and-narrow_goal-requires
 narrow_and-narrow_goal-requires t c = (omega (arith, c.decreases), tt)
 
 pub narrow_and-shape_of-room-then-narrow_goal : goal.narrow_and-shape_of-room-then-narrow_goal
-narrow_and-shape_of-room-then-narrow_goal t c = c.narrow_goal.auto.1.1.1.0
+narrow_and-shape_of-room-then-narrow_goal t c = c.narrow_goal.auto.room
 
 pub narrow_and-shape_of-marks-then-narrow_goal : goal.narrow_and-shape_of-marks-then-narrow_goal
-narrow_and-shape_of-marks-then-narrow_goal t c = c.narrow_goal.auto.1.1.1.1.1.1.1.1.1.0
+narrow_and-shape_of-marks-then-narrow_goal t c = c.narrow_goal.auto.marks
 
 pub narrow_and-returns-then-narrow_goal : goal.narrow_and-returns-then-narrow_goal
 narrow_and-returns-then-narrow_goal t c = (c.narrow_goal.ensures.0, tried.and_first c.args.left c.within-x.ensures c.narrow_goal.ensures.1 c.if-narrow_goal.true)
 
 pub narrow_and-shape_of-room-in_default : goal.narrow_and-shape_of-room-in_default
-narrow_and-shape_of-room-in_default t c = c.narrow_goal.auto.1.1.1.0
+narrow_and-shape_of-room-in_default t c = c.narrow_goal.auto.room
 
 pub narrow_and-shape_of-marks-in_default : goal.narrow_and-shape_of-marks-in_default
-narrow_and-shape_of-marks-in_default t c = c.again.auto.0 ∙ c.narrow_goal.auto.1.1.1.1.1.1.1.1.1.0
+narrow_and-shape_of-marks-in_default t c = c.again.auto.marks ∙ c.narrow_goal.auto.marks
 
 pub narrow_and-returns-in_default : goal.narrow_and-returns-in_default
 narrow_and-returns-in_default t c = (λ e. tried.more_same (c.again.ensures e) (c.narrow_goal.ensures.0 e), tried.and-lost c.args.left c.past_part.ensures c.in_default.is)
@@ -41,13 +41,13 @@ pub narrow_and-narrow_goal-requires-2 : goal.narrow_and-narrow_goal-requires-2
 narrow_and-narrow_goal-requires-2 t c = (omega (arith, c.decreases), tt)
 
 pub narrow_and-shape_of-room : goal.narrow_and-shape_of-room
-narrow_and-shape_of-room t c = c.narrow_goal-2.auto.1.1.1.0 ∙ c.narrow_goal.auto.1.1.1.0
+narrow_and-shape_of-room t c = c.narrow_goal-2.auto.room ∙ c.narrow_goal.auto.room
 
 pub narrow_and-shape_of-marks : goal.narrow_and-shape_of-marks
-narrow_and-shape_of-marks t c = c.narrow_goal-2.auto.1.1.1.1.1.1.1.1.1.0 ∙ (c.again.auto.0 ∙ c.narrow_goal.auto.1.1.1.1.1.1.1.1.1.0)
+narrow_and-shape_of-marks t c = c.narrow_goal-2.auto.marks ∙ (c.again.auto.marks ∙ c.narrow_goal.auto.marks)
 
 pub narrow_and-returns : goal.narrow_and-returns
-narrow_and-returns t c = (λ e. more-then (c.narrow_goal.ensures.0 e) (tried.more-from (c.again.ensures e) (c.narrow_goal-2.ensures.0 e)), tried.and_second c.args.left c.within-x.ensures c.narrow_goal.ensures.1 c.narrow_goal.auto.1.1.1.0 c.past_part.ensures c.in-Next.is c.within-y.ensures c.narrow_goal-2.ensures.1)
+narrow_and-returns t c = (λ e. more-then (c.narrow_goal.ensures.0 e) (tried.more-from (c.again.ensures e) (c.narrow_goal-2.ensures.0 e)), tried.and_second c.args.left c.within-x.ensures c.narrow_goal.ensures.1 c.narrow_goal.auto.room c.past_part.ensures c.in-Next.is c.within-y.ensures c.narrow_goal-2.ensures.1)
 
 pub narrow_atom-returns-then-not-has_variable : goal.narrow_atom-returns-then-not-has_variable
 narrow_atom-returns-then-not-has_variable t c = let x = c.before.args in (more-none x.marks.now, tried.as-nothing W.Atom x.left)
@@ -59,10 +59,10 @@ pub narrow_atom-narrow_clause-requires : goal.narrow_atom-narrow_clause-requires
 narrow_atom-narrow_clause-requires t c = (omega (arith, c.before.requires.0), tt)
 
 pub narrow_atom-shape_of-room-then-not-narrow_clause : goal.narrow_atom-shape_of-room-then-not-narrow_clause
-narrow_atom-shape_of-room-then-not-narrow_clause t c = c.narrow_clause.auto.1.1.1.0 ∙ c.loop-k.invariant.0
+narrow_atom-shape_of-room-then-not-narrow_clause t c = c.narrow_clause.auto.room ∙ c.loop-k.invariant.0
 
 pub narrow_atom-shape_of-marks-then-not-narrow_clause : goal.narrow_atom-shape_of-marks-then-not-narrow_clause
-narrow_atom-shape_of-marks-then-not-narrow_clause t c = c.narrow_clause.auto.1.1.1.1.1.1.1.1.1.1.1.0 ∙ c.loop-k.invariant.1.0.long
+narrow_atom-shape_of-marks-then-not-narrow_clause t c = c.narrow_clause.auto.marks ∙ c.loop-k.invariant.1.0.long
 
 pub narrow_atom-returns-then-not-narrow_clause : goal.narrow_atom-returns-then-not-narrow_clause
 narrow_atom-returns-then-not-narrow_clause t c = let l = c.loop-k in
@@ -72,7 +72,7 @@ narrow_atom-returns-then-not-narrow_clause t c = let l = c.loop-k in
 pub narrow_atom-loop-k-preserved : goal.narrow_atom-loop-k-preserved
 narrow_atom-loop-k-preserved t c = let l = c.loop-k in
     let n = c.narrow_clause in
-    (n.auto.1.1.1.0 ∙ l.invariant.0, (more-then l.invariant.1.0 n.ensures.0, tried.atom-next l.k l.invariant.1.1 l.invariant.0 c.predicate_key-predicate.ensures c.arguments_of-asked.ensures n.ensures.1 (not-false n.result c.if-not-narrow_clause.false-raw) n.ensures.0))
+    (n.auto.room ∙ l.invariant.0, (more-then l.invariant.1.0 n.ensures.0, tried.atom-next l.k l.invariant.1.1 l.invariant.0 c.predicate_key-predicate.ensures c.arguments_of-asked.ensures n.ensures.1 (not-false n.result c.if-not-narrow_clause.false-raw) n.ensures.0))
 
 pub narrow_atom-shape_of-room : goal.narrow_atom-shape_of-room
 narrow_atom-shape_of-room t c = c.loop-k.invariant.0
@@ -93,10 +93,10 @@ pub narrow_clause-narrow_rule-requires : goal.narrow_clause-narrow_rule-requires
 narrow_clause-narrow_rule-requires t c = (omega (arith, c.decreases), tt)
 
 pub narrow_clause-shape_of-room : goal.narrow_clause-shape_of-room
-narrow_clause-shape_of-room t c = c.narrow_rule.auto.1.1.1.0
+narrow_clause-shape_of-room t c = c.narrow_rule.auto.room
 
 pub narrow_clause-shape_of-marks : goal.narrow_clause-shape_of-marks
-narrow_clause-shape_of-marks t c = c.narrow_rule.auto.1.1.1.1.1.1.1.1.1.0 ∙ c.by_clause.ensures.more.long
+narrow_clause-shape_of-marks t c = c.narrow_rule.auto.marks ∙ c.by_clause.ensures.more.long
 
 pub narrow_clause-returns : goal.narrow_clause-returns
 narrow_clause-returns t c = (more-then c.by_clause.ensures.more c.narrow_rule.ensures.0, λ P. c.narrow_rule.ensures.1 c.args.own)
@@ -111,19 +111,19 @@ pub narrow_goal-narrow_and-requires : goal.narrow_goal-narrow_and-requires
 narrow_goal-narrow_and-requires t c = (omega (arith, c.decreases, c.if-height-eq0.false), tt)
 
 pub narrow_goal-shape_of-room-in-Atom : goal.narrow_goal-shape_of-room-in-Atom
-narrow_goal-shape_of-room-in-Atom t c = c.narrow_atom.auto.1.1.1.0
+narrow_goal-shape_of-room-in-Atom t c = c.narrow_atom.auto.room
 
 pub narrow_goal-shape_of-marks-in-Atom : goal.narrow_goal-shape_of-marks-in-Atom
-narrow_goal-shape_of-marks-in-Atom t c = c.narrow_atom.auto.1.1.1.1.1.1.1.1.0
+narrow_goal-shape_of-marks-in-Atom t c = c.narrow_atom.auto.marks
 
 pub narrow_goal-returns-in-Atom : goal.narrow_goal-returns-in-Atom
 narrow_goal-returns-in-Atom t c = (λ e. c.narrow_atom.ensures.0, tried.goal-word c.args.height W.Atom c.word_there.result c.if-height-eq0.false c.word_there.ensures c.in-Atom.is c.narrow_atom.ensures.1)
 
 pub narrow_goal-shape_of-room-in-And : goal.narrow_goal-shape_of-room-in-And
-narrow_goal-shape_of-room-in-And t c = c.narrow_and.auto.1.1.1.0
+narrow_goal-shape_of-room-in-And t c = c.narrow_and.auto.room
 
 pub narrow_goal-shape_of-marks-in-And : goal.narrow_goal-shape_of-marks-in-And
-narrow_goal-shape_of-marks-in-And t c = c.narrow_and.auto.1.1.1.1.1.1.1.1.1.0
+narrow_goal-shape_of-marks-in-And t c = c.narrow_and.auto.marks
 
 pub narrow_goal-returns-in-And : goal.narrow_goal-returns-in-And
 narrow_goal-returns-in-And t c = (c.narrow_and.ensures.0, tried.goal-word c.args.height W.And c.word_there.result c.if-height-eq0.false c.word_there.ensures c.in-And.is c.narrow_and.ensures.1)
@@ -132,31 +132,31 @@ pub narrow_goal-returns-in_default : goal.narrow_goal-returns-in_default
 narrow_goal-returns-in_default t c = let x = c.args in (λ e. more-none x.marks.now, tried.goal-nothing x.height)
 
 pub narrow_rule-shape_of-room-in_default : goal.narrow_rule-shape_of-room-in_default
-narrow_rule-shape_of-room-in_default t c = c.open_clause.auto.0
+narrow_rule-shape_of-room-in_default t c = c.open_clause.auto.room
 
 pub narrow_rule-returns-in_default : goal.narrow_rule-returns-in_default
 narrow_rule-returns-in_default t c = let x = c.args in (more-none x.marks.now, λ own. rules.rule-none x.k c.open_clause.ensures c.in_default.is)
 
 pub narrow_rule-shape_of-room-then-not-p : goal.narrow_rule-shape_of-room-then-not-p
-narrow_rule-shape_of-room-then-not-p t c = c.open_clause.auto.0
+narrow_rule-shape_of-room-then-not-p t c = c.open_clause.auto.room
 
 pub narrow_rule-returns-then-not-p : goal.narrow_rule-returns-then-not-p
 narrow_rule-returns-then-not-p t c = let x = c.before.args in (more-none x.marks.now, λ own. rules.rule-stops x.k c.open_clause.ensures c.in-Clause.is)
 
 pub narrow_rule-shape_of-room-then-not-p-2 : goal.narrow_rule-shape_of-room-then-not-p-2
-narrow_rule-shape_of-room-then-not-p-2 t c = c.open_clause.auto.0
+narrow_rule-shape_of-room-then-not-p-2 t c = c.open_clause.auto.room
 
 pub narrow_rule-returns-then-not-p-2 : goal.narrow_rule-returns-then-not-p-2
 narrow_rule-returns-then-not-p-2 t c = let x = c.before.args in (more-none x.marks.now, λ own. rules.rule-stops x.k c.open_clause.ensures c.in-Clause.is)
 
 pub narrow_rule-shape_of-room-in_default-same_as : goal.narrow_rule-shape_of-room-in_default-same_as
-narrow_rule-shape_of-room-in_default-same_as t c = c.open_clause.auto.0
+narrow_rule-shape_of-room-in_default-same_as t c = c.open_clause.auto.room
 
 pub narrow_rule-returns-in_default-same_as : goal.narrow_rule-returns-in_default-same_as
 narrow_rule-returns-in_default-same_as t c = let x = c.args in (more-none x.marks.now, λ own. rules.rule-stops x.k c.open_clause.ensures c.in-Clause.is)
 
 pub narrow_rule-shape_of-room-then-not-spend : goal.narrow_rule-shape_of-room-then-not-spend
-narrow_rule-shape_of-room-then-not-spend t c = c.open_clause.auto.0
+narrow_rule-shape_of-room-then-not-spend t c = c.open_clause.auto.room
 
 pub narrow_rule-shape_of-marks-then-not-spend : goal.narrow_rule-shape_of-marks-then-not-spend
 narrow_rule-shape_of-marks-then-not-spend t c = c.spend.ensures.long
@@ -168,10 +168,10 @@ pub narrow_rule-narrow_goal-requires : goal.narrow_rule-narrow_goal-requires
 narrow_rule-narrow_goal-requires t c = (omega (arith, c.decreases), tt)
 
 pub narrow_rule-shape_of-room : goal.narrow_rule-shape_of-room
-narrow_rule-shape_of-room t c = c.narrow_goal.auto.1.1.1.0 ∙ (c.set_beside.auto.1.1.1.0 ∙ (c.unset_all.auto.0 ∙ c.open_clause.auto.0))
+narrow_rule-shape_of-room t c = c.narrow_goal.auto.room ∙ (c.set_beside.auto.room ∙ (c.unset_all.auto.room ∙ c.open_clause.auto.room))
 
 pub narrow_rule-shape_of-marks : goal.narrow_rule-shape_of-marks
-narrow_rule-shape_of-marks t c = c.narrow_goal.auto.1.1.1.1.1.1.1.1.1.0 ∙ c.spend.ensures.long
+narrow_rule-shape_of-marks t c = c.narrow_goal.auto.marks ∙ c.spend.ensures.long
 
 pub narrow_rule-returns : goal.narrow_rule-returns
 narrow_rule-returns t c = let p = c.clause_parts-p.result in

@@ -17,4 +17,4 @@ returns c =
     let x = c.before.args in
     let l = c.longest in
     let p = c.put in
-    strip-copied x.scratch.now x.strip.now x.first l.result l.ensures p.new.0 p.result c.if-longest-first.false c.before.requires p.ensures
+    strip-copied x.scratch.now x.strip.now x.first l.result l.ensures p.new.buf p.result c.if-longest-first.false c.before.requires p.ensures

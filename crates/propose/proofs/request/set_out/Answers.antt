@@ -11,4 +11,4 @@ returns c =
     let d = c.fill_heads in
     let g = c.fill_arguments in
     let e = c.empty_all in
-    set_out x.rules.now x.terms.now x.room.now t.new.1.1.0 k.new.1.1.0 d.new.1.0 g.new.1.1.0 e.new.0 t.auto.1.1.0 t.ensures k.ensures d.ensures g.ensures e.ensures.0 e.ensures.1
+    set_out x.rules.now x.terms.now x.room.now t.new.room k.new.room d.new.room g.new.room e.new.room t.auto.room t.ensures k.ensures d.ensures g.ensures e.ensures.only e.ensures.none

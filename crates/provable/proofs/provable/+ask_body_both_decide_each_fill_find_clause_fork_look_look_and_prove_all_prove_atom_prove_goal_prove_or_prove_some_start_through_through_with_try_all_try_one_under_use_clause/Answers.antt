@@ -33,7 +33,7 @@ pub ask-prove_goal-requires : goal.ask-prove_goal-requires
 ask-prove_goal-requires t c = (omega (arith, c.before.requires.0), tt)
 
 pub ask-shape_of-room : goal.ask-shape_of-room
-ask-shape_of-room t c = c.prove_goal.auto.1.1.1.0
+ask-shape_of-room t c = c.prove_goal.auto.room
 
 pub ask-returns : goal.ask-returns
 ask-returns t c = filling.one-asked c.before.args.height c.is_due.ensures (not-false c.is_due.result c.if-not-is_due.false-raw) c.prove_goal.ensures
@@ -45,7 +45,7 @@ pub body-look-requires : goal.body-look-requires
 body-look-requires t c = (omega (arith, c.decreases), tt)
 
 pub body-shape_of-room : goal.body-shape_of-room
-body-shape_of-room t c = c.look.auto.1.1.1.0
+body-shape_of-room t c = c.look.auto.room
 
 pub body-returns : goal.body-returns
 body-returns t c = filling.body-looked (not-false c.args.p.body c.if-not-p.false) c.body_place.ensures c.look.ensures
@@ -54,7 +54,7 @@ pub both-returns-then-not-prove_goal : goal.both-returns-then-not-prove_goal
 both-returns-then-not-prove_goal t c = laws.both_first c.within.ensures c.prove_goal.ensures (not-true c.prove_goal.result c.if-not-prove_goal.true-raw)
 
 pub both-shape_of-room-in_default : goal.both-shape_of-room-in_default
-both-shape_of-room-in_default t c = c.prove_goal.auto.1.1.1.0
+both-shape_of-room-in_default t c = c.prove_goal.auto.room
 
 pub both-returns-in_default : goal.both-returns-in_default
 both-returns-in_default t c = laws.both-lost c.past_part.ensures c.in_default.is
@@ -63,38 +63,38 @@ pub both-prove_goal-requires-2 : goal.both-prove_goal-requires-2
 both-prove_goal-requires-2 t c = (omega (arith, c.decreases), tt)
 
 pub both-shape_of-room : goal.both-shape_of-room
-both-shape_of-room t c = c.prove_goal-2.auto.1.1.1.0 ∙ c.prove_goal.auto.1.1.1.0
+both-shape_of-room t c = c.prove_goal-2.auto.room ∙ c.prove_goal.auto.room
 
 pub both-returns : goal.both-returns
-both-returns t c = laws.both-second c.within.ensures c.within-2.ensures c.past_part.ensures c.in-Next.is c.prove_goal.ensures (not-false c.prove_goal.result c.if-not-prove_goal.false-raw) c.prove_goal.auto.1.1.1.0 c.prove_goal-2.ensures
+both-returns t c = laws.both-second c.within.ensures c.within-2.ensures c.past_part.ensures c.in-Next.is c.prove_goal.ensures (not-false c.prove_goal.result c.if-not-prove_goal.false-raw) c.prove_goal.auto.room c.prove_goal-2.ensures
 
 pub decide-find_clause-k-requires : goal.decide-find_clause-k-requires
 decide-find_clause-k-requires t c = (omega (arith, c.decreases), tt)
 
 pub decide-shape_of-room-then-clauses-k : goal.decide-shape_of-room-then-clauses-k
-decide-shape_of-room-then-clauses-k t c = c.keep.auto.1.1.1.0 ∙ c.find_clause-k.auto.1.1.1.0
+decide-shape_of-room-then-clauses-k t c = c.keep.auto.room ∙ c.find_clause-k.auto.room
 
 pub decide-returns-then-clauses-k : goal.decide-returns-then-clauses-k
-decide-returns-then-clauses-k t c = atoms.decide-none c.before.args.at c.find_clause-k.ensures.0 c.find_clause-k.auto.1.1.1.0 c.clauses.ensures c.if-clauses-k.true c.plus.ensures c.keep.ensures.0 c.keep.ensures.1
+decide-returns-then-clauses-k t c = atoms.decide-none c.before.args.at c.find_clause-k.ensures.0 c.find_clause-k.auto.room c.clauses.ensures c.if-clauses-k.true c.plus.ensures c.keep.ensures.only c.keep.ensures.kept
 
 pub decide-shape_of-room-then-is_fact : goal.decide-shape_of-room-then-is_fact
-decide-shape_of-room-then-is_fact t c = c.find_clause-k.auto.1.1.1.0
+decide-shape_of-room-then-is_fact t c = c.find_clause-k.auto.room
 
 pub decide-returns-then-is_fact : goal.decide-returns-then-is_fact
-decide-returns-then-is_fact t c = atoms.decide-fact c.before.before.args.at c.find_clause-k.ensures.0 c.find_clause-k.auto.1.1.1.0 c.clauses.ensures c.if-clauses-k.false
+decide-returns-then-is_fact t c = atoms.decide-fact c.before.before.args.at c.find_clause-k.ensures.0 c.find_clause-k.auto.room c.clauses.ensures c.if-clauses-k.false
 
 pub decide-shape_of-room : goal.decide-shape_of-room
-decide-shape_of-room t c = c.keep-2.auto.1.1.1.0 ∙ c.find_clause-k.auto.1.1.1.0
+decide-shape_of-room t c = c.keep-2.auto.room ∙ c.find_clause-k.auto.room
 
 pub decide-returns : goal.decide-returns
-decide-returns t c = atoms.decide-some c.before.before.before.args.at c.find_clause-k.ensures.0 c.find_clause-k.ensures.1 c.find_clause-k.auto.1.1.1.0 c.clauses.ensures c.if-clauses-k.false c.plus-2.ensures c.rule_number-number.ensures c.keep-2.ensures.0 c.keep-2.ensures.1
+decide-returns t c = atoms.decide-some c.before.before.before.args.at c.find_clause-k.ensures.0 c.find_clause-k.ensures.1 c.find_clause-k.auto.room c.clauses.ensures c.if-clauses-k.false c.plus-2.ensures c.rule_number-number.ensures c.keep-2.ensures.only c.keep-2.ensures.kept
 
 pub each-loop-i-init : goal.each-loop-i-init
 each-loop-i-init t c = let x = c.before.args in
     (omega arith, (refl, passing.all_start x.nest))
 
 pub each-shape_of-room-then-through_with : goal.each-shape_of-room-then-through_with
-each-shape_of-room-then-through_with t c = c.through_with.auto.1.1.1.0 ∙ c.loop-i.invariant.1.0
+each-shape_of-room-then-through_with t c = c.through_with.auto.room ∙ c.loop-i.invariant.1.0
 
 pub each-returns-then-through_with : goal.each-returns-then-through_with
 each-returns-then-through_with t c = let x = c.before.args in
@@ -104,7 +104,7 @@ each-returns-then-through_with t c = let x = c.before.args in
 pub each-loop-i-preserved : goal.each-loop-i-preserved
 each-loop-i-preserved t c = let x = c.before.args in
     let l = c.loop-i in
-    (omega arith, (c.through_with.auto.1.1.1.0 ∙ l.invariant.1.0, passing.all-miss x.nest l.i c.candidates-n.result c.loop-i-test.true c.candidates-n.ensures l.invariant.1.1 l.invariant.1.0 c.through_with.ensures c.if-through_with.false))
+    (omega arith, (c.through_with.auto.room ∙ l.invariant.1.0, passing.all-miss x.nest l.i c.candidates-n.result c.loop-i-test.true c.candidates-n.ensures l.invariant.1.1 l.invariant.1.0 c.through_with.ensures c.if-through_with.false))
 
 pub each-shape_of-room : goal.each-shape_of-room
 each-shape_of-room t c = c.loop-i.invariant.1.0
@@ -121,7 +121,7 @@ pub fill-try_all-requires : goal.fill-try_all-requires
 fill-try_all-requires t c = (omega (arith, c.decreases, c.if-k-eq0.false), tt)
 
 pub fill-shape_of-room-then-is_open : goal.fill-shape_of-room-then-is_open
-fill-shape_of-room-then-is_open t c = c.try_all.auto.1.1.1.0
+fill-shape_of-room-then-is_open t c = c.try_all.auto.room
 
 pub fill-returns-then-is_open : goal.fill-returns-then-is_open
 fill-returns-then-is_open t c = filling.fill_here c.args.k c.if-k-eq0.false c.is_open.ensures c.if-is_open.true c.try_all.ensures
@@ -130,7 +130,7 @@ pub fill-fill-requires : goal.fill-fill-requires
 fill-fill-requires t c = (omega (arith, c.decreases, c.if-k-eq0.false), tt)
 
 pub fill-shape_of-room : goal.fill-shape_of-room
-fill-shape_of-room t c = c.fill.auto.1.1.1.0
+fill-shape_of-room t c = c.fill.auto.room
 
 pub fill-returns : goal.fill-returns
 fill-returns t c = filling.fill-set c.args.k c.if-k-eq0.false c.is_open.ensures c.if-is_open.false c.fill.ensures
@@ -142,7 +142,7 @@ pub find_clause-use_clause-requires : goal.find_clause-use_clause-requires
 find_clause-use_clause-requires t c = (omega (arith, c.before.before.requires.0), tt)
 
 pub find_clause-shape_of-room-then-use_clause : goal.find_clause-shape_of-room-then-use_clause
-find_clause-shape_of-room-then-use_clause t c = c.use_clause.auto.1.1.1.0 ∙ c.loop-k.invariant.1.0
+find_clause-shape_of-room-then-use_clause t c = c.use_clause.auto.room ∙ c.loop-k.invariant.1.0
 
 pub find_clause-returns-then-use_clause : goal.find_clause-returns-then-use_clause
 find_clause-returns-then-use_clause t c = let l = c.loop-k in
@@ -154,7 +154,7 @@ find_clause-loop-k-smaller t c = let z = c.next_clause-k-in-loop-k.ensures.furth
 
 pub find_clause-loop-k-preserved : goal.find_clause-loop-k-preserved
 find_clause-loop-k-preserved t c = let l = c.loop-k in
-    (c.next_clause-k-in-loop-k.ensures.few, (c.use_clause.auto.1.1.1.0 ∙ l.invariant.1.0, atoms.find-miss l.k l.invariant.1.1 l.invariant.1.0 (c.use_clause.auto.1.1.1.0 ∙ l.invariant.1.0) c.use_clause.ensures.0 c.if-use_clause.false c.next_clause-k-in-loop-k.ensures))
+    (c.next_clause-k-in-loop-k.ensures.few, (c.use_clause.auto.room ∙ l.invariant.1.0, atoms.find-miss l.k l.invariant.1.1 l.invariant.1.0 (c.use_clause.auto.room ∙ l.invariant.1.0) c.use_clause.ensures.0 c.if-use_clause.false c.next_clause-k-in-loop-k.ensures))
 
 pub find_clause-shape_of-room : goal.find_clause-shape_of-room
 find_clause-shape_of-room t c = c.loop-k.invariant.1.0
@@ -170,7 +170,7 @@ pub fork-returns-then-through : goal.fork-returns-then-through
 fork-returns-then-through t c = passing.and_first c.args.nest c.further.ensures c.through.ensures.0 c.if-through.true
 
 pub fork-returns : goal.fork-returns
-fork-returns t c = passing.and_second c.args.nest c.further.ensures c.further-2.ensures c.past_part.ensures c.in-Next.is c.through.ensures.0 c.if-through.false c.through.auto.1.1.1.0 c.through-2.ensures.0
+fork-returns t c = passing.and_second c.args.nest c.further.ensures c.further-2.ensures c.past_part.ensures c.in-Next.is c.through.ensures.0 c.if-through.false c.through.auto.room c.through-2.ensures.0
 
 pub look-look_and-requires : goal.look-look_and-requires
 look-look_and-requires t c = (omega (arith, c.decreases), tt)
@@ -192,14 +192,14 @@ pub look-ask-requires : goal.look-ask-requires
 look-ask-requires t c = (omega (arith, c.decreases), tt)
 
 pub look-shape_of-room-in-And : goal.look-shape_of-room-in-And
-look-shape_of-room-in-And t c = c.look_and.auto.1.1.1.0
+look-shape_of-room-in-And t c = c.look_and.auto.room
 
 pub look-returns-in-And : goal.look-returns-in-And
 look-returns-in-And t c = let k = c.word_there.result in
     filling.look-and k c.word_there.ensures c.in-And.is c.look_and.ensures
 
 pub look-shape_of-room-else-height-eq0 : goal.look-shape_of-room-else-height-eq0
-look-shape_of-room-else-height-eq0 t c = c.prove_atom.auto.1.1.1.0
+look-shape_of-room-else-height-eq0 t c = c.prove_atom.auto.room
 
 pub look-returns-else-height-eq0 : goal.look-returns-else-height-eq0
 unfolding rank
@@ -207,7 +207,7 @@ look-returns-else-height-eq0 t c = let k = c.word_there.result in
     filling.look-other k c.word_there.ensures (filling.other_word k W.And (3 ∷ []) (tag-rank k) c.in-Atom.in-Atom-own.keys2 refl) (filling.one-asked c.args.height c.is_due.ensures (not-false c.is_due.result c.if-not-is_due.false-raw) (laws.by_word c.args.height W.Atom k c.if-height-eq0.false c.word_there.ensures c.in-Atom.is c.prove_atom.ensures))
 
 pub look-shape_of-room-in_default : goal.look-shape_of-room-in_default
-look-shape_of-room-in_default t c = c.ask.auto.1.1.1.0
+look-shape_of-room-in_default t c = c.ask.auto.room
 
 pub look-returns-in_default : goal.look-returns-in_default
 unfolding rank
@@ -221,13 +221,13 @@ pub look_and-look-requires : goal.look_and-look-requires
 look_and-look-requires t c = (omega (arith, c.decreases, c.if-height-eq0.false), tt)
 
 pub look_and-shape_of-room-then-not-look : goal.look_and-shape_of-room-then-not-look
-look_and-shape_of-room-then-not-look t c = c.look.auto.1.1.1.0
+look_and-shape_of-room-then-not-look t c = c.look.auto.room
 
 pub look_and-returns-then-not-look : goal.look_and-returns-then-not-look
 look_and-returns-then-not-look t c = filling.both_first c.args.height c.if-height-eq0.false c.within.ensures c.look.ensures (not-true c.look.result c.if-not-look.true-raw)
 
 pub look_and-shape_of-room-in_default : goal.look_and-shape_of-room-in_default
-look_and-shape_of-room-in_default t c = c.look.auto.1.1.1.0
+look_and-shape_of-room-in_default t c = c.look.auto.room
 
 pub look_and-returns-in_default : goal.look_and-returns-in_default
 look_and-returns-in_default t c = filling.both-lost c.args.height c.past_part.ensures c.in_default.is
@@ -239,10 +239,10 @@ pub look_and-look-requires-2 : goal.look_and-look-requires-2
 look_and-look-requires-2 t c = (omega (arith, c.decreases, c.if-height-eq0.false), tt)
 
 pub look_and-shape_of-room : goal.look_and-shape_of-room
-look_and-shape_of-room t c = c.look-2.auto.1.1.1.0 ∙ c.look.auto.1.1.1.0
+look_and-shape_of-room t c = c.look-2.auto.room ∙ c.look.auto.room
 
 pub look_and-returns : goal.look_and-returns
-look_and-returns t c = filling.both-second c.args.height c.if-height-eq0.false c.within.ensures c.within-2.ensures c.past_part.ensures c.in-Next.is c.look.ensures (not-false c.look.result c.if-not-look.false-raw) c.look.auto.1.1.1.0 c.look-2.ensures
+look_and-returns t c = filling.both-second c.args.height c.if-height-eq0.false c.within.ensures c.within-2.ensures c.past_part.ensures c.in-Next.is c.look.ensures (not-false c.look.result c.if-not-look.false-raw) c.look.auto.room c.look-2.ensures
 
 pub prove_all-returns-then-w-ge64 : goal.prove_all-returns-then-w-ge64
 prove_all-returns-then-w-ge64 t c = laws.all-full c.if-w-ge64.true
@@ -263,7 +263,7 @@ pub prove_atom-returns-in-Yes : goal.prove_atom-returns-in-Yes
 prove_atom-returns-in-Yes t c = atoms.atom-recalled c.slot_for-at.result c.recall.result true c.plus.ensures c.slot_for-at.ensures.1 c.recall.ensures (λ b x. subst (Says b) c.in-Yes.is x)
 
 pub prove_atom-shape_of-room-in-Unknown : goal.prove_atom-shape_of-room-in-Unknown
-prove_atom-shape_of-room-in-Unknown t c = c.decide.auto.1.1.1.0
+prove_atom-shape_of-room-in-Unknown t c = c.decide.auto.room
 
 pub prove_atom-returns-in-Unknown : goal.prove_atom-returns-in-Unknown
 prove_atom-returns-in-Unknown t c = atoms.atom-decided c.slot_for-at.result c.both_keys-of.ensures.0 c.both_keys-of.ensures.1 c.slot_for-at.ensures.1 c.decide.ensures
@@ -315,7 +315,7 @@ pub prove_or-prove_goal-requires-2 : goal.prove_or-prove_goal-requires-2
 prove_or-prove_goal-requires-2 t c = (omega (arith, c.decreases), tt)
 
 pub prove_or-returns : goal.prove_or-returns
-prove_or-returns t c = laws.either_second c.within.ensures c.within-2.ensures c.past_part.ensures c.in-Next.is c.prove_goal.ensures c.if-prove_goal.false c.prove_goal.auto.1.1.1.0 c.prove_goal-2.ensures
+prove_or-returns t c = laws.either_second c.within.ensures c.within-2.ensures c.past_part.ensures c.in-Next.is c.prove_goal.ensures c.if-prove_goal.false c.prove_goal.auto.room c.prove_goal-2.ensures
 
 pub prove_some-returns-then-left-p : goal.prove_some-returns-then-left-p
 prove_some-returns-then-left-p t c = (filling.some-low c.args.left c.deeper.ensures c.chain_of-p.ensures c.if-left-p.true, locating.located-no-some)
@@ -330,7 +330,7 @@ pub prove_some-start-requires : goal.prove_some-start-requires
 prove_some-start-requires t c = (let l = c.chain_of-p.ensures.some (omega arith) in omega (arith, l, c.decreases, c.if-left-p.false), tt)
 
 pub prove_some-shape_of-room : goal.prove_some-shape_of-room
-prove_some-shape_of-room t c = c.start.auto.1.1.1.0
+prove_some-shape_of-room t c = c.start.auto.room
 
 pub prove_some-returns : goal.prove_some-returns
 prove_some-returns t c = let x = c.args in
@@ -338,7 +338,7 @@ prove_some-returns t c = let x = c.args in
     (filling.some-goes {f = f} x.left c.deeper.ensures c.chain_of-p.ensures c.if-left-p.false c.start.ensures, filling.some-located {f = f} x.left c.deeper.ensures c.chain_of-p.ensures c.if-left-p.false c.start.ensures)
 
 pub start-shape_of-room-in_default : goal.start-shape_of-room-in_default
-start-shape_of-room-in_default t c = c.meet.auto.1.1.1.0 ∙ c.unset_all.auto.0
+start-shape_of-room-in_default t c = c.meet.auto.room ∙ c.unset_all.auto.room
 
 pub start-returns-in_default : goal.start-returns-in_default
 start-returns-in_default t c = filling.plain-settled c.unset_all.ensures c.meet.ensures c.in_default.is
@@ -347,7 +347,7 @@ pub start-body-requires : goal.start-body-requires
 start-body-requires t c = (omega (arith, c.decreases), tt)
 
 pub start-shape_of-room-then-not-body : goal.start-shape_of-room-then-not-body
-start-shape_of-room-then-not-body t c = c.body.auto.1.1.1.0 ∙ (c.meet.auto.1.1.1.0 ∙ c.unset_all.auto.0)
+start-shape_of-room-then-not-body t c = c.body.auto.room ∙ (c.meet.auto.room ∙ c.unset_all.auto.room)
 
 pub start-returns-then-not-body : goal.start-returns-then-not-body
 start-returns-then-not-body t c = filling.plain_body c.unset_all.ensures c.meet.ensures c.in-On.is c.body.ensures (not-true c.body.result c.if-not-body.true-raw)
@@ -356,10 +356,10 @@ pub start-fill-requires : goal.start-fill-requires
 start-fill-requires t c = (omega (arith, c.decreases), tt)
 
 pub start-shape_of-room : goal.start-shape_of-room
-start-shape_of-room t c = c.fill.auto.1.1.1.0 ∙ (c.body.auto.1.1.1.0 ∙ (c.meet.auto.1.1.1.0 ∙ c.unset_all.auto.0))
+start-shape_of-room t c = c.fill.auto.room ∙ (c.body.auto.room ∙ (c.meet.auto.room ∙ c.unset_all.auto.room))
 
 pub start-returns : goal.start-returns
-start-returns t c = filling.plain-goes c.unset_all.ensures c.meet.ensures c.in-On.is c.body.ensures (not-false c.body.result c.if-not-body.false-raw) c.body.auto.1.1.1.0 c.fill.ensures
+start-returns t c = filling.plain-goes c.unset_all.ensures c.meet.ensures c.in-On.is c.body.ensures (not-false c.body.result c.if-not-body.false-raw) c.body.auto.room c.fill.ensures
 
 pub through-returns-then-nest-eq0 : goal.through-returns-then-nest-eq0
 through-returns-then-nest-eq0 t c = (passing.no-nest c.args.nest c.if-nest-eq0.true, locating.located-no)
@@ -368,7 +368,7 @@ pub through-start-requires : goal.through-start-requires
 through-start-requires t c = (omega (arith, c.decreases, c.parts_of-p.ensures.few), tt)
 
 pub through-shape_of-room-then-p : goal.through-shape_of-room-then-p
-through-shape_of-room-then-p t c = c.start.auto.1.1.1.0
+through-shape_of-room-then-p t c = c.start.auto.room
 
 pub through-returns-then-p : goal.through-returns-then-p
 through-returns-then-p t c = (filling.plain-found c.args.nest c.parts_of-p.ensures c.if-p.true c.start.ensures, locating.located-plain c.parts_of-p.ensures c.if-p.true c.start.ensures)
@@ -383,14 +383,14 @@ pub through-each-requires : goal.through-each-requires
 through-each-requires t c = (omega (arith, c.decreases, c.if-nest-eq0.false), tt)
 
 pub through-shape_of-room-in-And : goal.through-shape_of-room-in-And
-through-shape_of-room-in-And t c = c.fork.auto.1.1.1.0
+through-shape_of-room-in-And t c = c.fork.auto.room
 
 pub through-returns-in-And : goal.through-returns-in-And
 through-returns-in-And t c = let x = c.args in
     (passing.by_word x.nest W.And c.word_there.result c.if-nest-eq0.false c.word_there.ensures c.in-And.is c.fork.ensures, locating.located-not c.parts_of-p.ensures c.if-p.false)
 
 pub through-shape_of-room-in-All : goal.through-shape_of-room-in-All
-through-shape_of-room-in-All t c = c.each.auto.1.1.1.0
+through-shape_of-room-in-All t c = c.each.auto.room
 
 pub through-returns-in-All : goal.through-returns-in-All
 through-returns-in-All t c = let x = c.args in
@@ -422,33 +422,33 @@ pub try_all-try_one-requires : goal.try_all-try_one-requires
 try_all-try_one-requires t c = (omega (arith, c.before.requires.0), tt)
 
 pub try_all-shape_of-room-then-try_one : goal.try_all-shape_of-room-then-try_one
-try_all-shape_of-room-then-try_one t c = c.try_one.auto.1.1.1.0 ∙ (c.loop-i.invariant.1.0 ∙ c.narrow_body-narrowed.auto.1.1.1.0)
+try_all-shape_of-room-then-try_one t c = c.try_one.auto.room ∙ (c.loop-i.invariant.1.0 ∙ c.narrow_body-narrowed.auto.room)
 
 pub try_all-returns-then-try_one : goal.try_all-returns-then-try_one
 try_all-returns-then-try_one t c = let l = c.loop-i in
     let x = c.before.args in
     let n = c.narrow_body-narrowed in
-    filling.each-hit x.v l.i c.candidates-n.result c.loop-i-test.true c.candidates-n.ensures (l.invariant.1.1 x.room.now n.ensures n.auto.1.1.1.0 c.candidates-n.ensures) (l.invariant.1.0 ∙ n.auto.1.1.1.0) c.try_one.ensures c.if-try_one.true
+    filling.each-hit x.v l.i c.candidates-n.result c.loop-i-test.true c.candidates-n.ensures (l.invariant.1.1 x.room.now n.ensures n.auto.room c.candidates-n.ensures) (l.invariant.1.0 ∙ n.auto.room) c.try_one.ensures c.if-try_one.true
 
 pub try_all-loop-i-preserved : goal.try_all-loop-i-preserved
 try_all-loop-i-preserved t c = let l = c.loop-i in
-    (omega arith, (c.try_one.auto.1.1.1.0 ∙ l.invariant.1.0, tried.from-miss c.before.args.v c.candidates-n.result l.i c.loop-i-test.true l.invariant.1.1 l.invariant.1.0 c.try_one.ensures c.if-try_one.false))
+    (omega arith, (c.try_one.auto.room ∙ l.invariant.1.0, tried.from-miss c.before.args.v c.candidates-n.result l.i c.loop-i-test.true l.invariant.1.1 l.invariant.1.0 c.try_one.ensures c.if-try_one.false))
 
 pub try_all-shape_of-room : goal.try_all-shape_of-room
-try_all-shape_of-room t c = c.push.auto.0 ∙ (c.loop-i.invariant.1.0 ∙ c.narrow_body-narrowed.auto.1.1.1.0)
+try_all-shape_of-room t c = c.push.auto.room ∙ (c.loop-i.invariant.1.0 ∙ c.narrow_body-narrowed.auto.room)
 
 pub try_all-returns : goal.try_all-returns
 try_all-returns t c = let l = c.loop-i in
     let x = c.args in
     let n = c.narrow_body-narrowed in
-    filling.each-done x.v l.i c.candidates-n.result c.loop-i-test.false c.candidates-n.ensures (l.invariant.1.1 x.room.now n.ensures n.auto.1.1.1.0 c.candidates-n.ensures) (l.invariant.1.0 ∙ n.auto.1.1.1.0) c.word_of.ensures c.push.ensures
+    filling.each-done x.v l.i c.candidates-n.result c.loop-i-test.false c.candidates-n.ensures (l.invariant.1.1 x.room.now n.ensures n.auto.room c.candidates-n.ensures) (l.invariant.1.0 ∙ n.auto.room) c.word_of.ensures c.push.ensures
 
 pub try_one-returns-then-not-may_use : goal.try_one-returns-then-not-may_use
 try_one-returns-then-not-may_use t c = let x = c.before.args in
     filling.with-barred x.v x.i c.may_use.result c.may_use.ensures (not-true c.may_use.result c.if-not-may_use.true-raw)
 
 pub try_one-shape_of-room-then-not-may_fit : goal.try_one-shape_of-room-then-not-may_fit
-try_one-shape_of-room-then-not-may_fit t c = c.push.auto.0
+try_one-shape_of-room-then-not-may_fit t c = c.push.auto.room
 
 pub try_one-returns-then-not-may_fit : goal.try_one-returns-then-not-may_fit
 try_one-returns-then-not-may_fit t c = let x = c.before.args in
@@ -458,7 +458,7 @@ pub try_one-body-requires : goal.try_one-body-requires
 try_one-body-requires t c = (omega (arith, c.before.requires.0), tt)
 
 pub try_one-shape_of-room-then-not-body : goal.try_one-shape_of-room-then-not-body
-try_one-shape_of-room-then-not-body t c = c.body.auto.1.1.1.0 ∙ c.push.auto.0
+try_one-shape_of-room-then-not-body t c = c.body.auto.room ∙ c.push.auto.room
 
 pub try_one-returns-then-not-body : goal.try_one-returns-then-not-body
 try_one-returns-then-not-body t c = let x = c.before.args in
@@ -468,11 +468,11 @@ pub try_one-fill-requires : goal.try_one-fill-requires
 try_one-fill-requires t c = (omega (arith, c.before.requires.0), tt)
 
 pub try_one-shape_of-room : goal.try_one-shape_of-room
-try_one-shape_of-room t c = c.fill.auto.1.1.1.0 ∙ (c.body.auto.1.1.1.0 ∙ c.push.auto.0)
+try_one-shape_of-room t c = c.fill.auto.room ∙ (c.body.auto.room ∙ c.push.auto.room)
 
 pub try_one-returns : goal.try_one-returns
 try_one-returns t c = let x = c.before.args in
-    filling.with-goes x.v x.i c.may_use.result c.may_use.ensures (not-false c.may_use.result c.if-not-may_use.false-raw) c.word_of.ensures c.push.ensures c.body.ensures (not-false c.body.result c.if-not-body.false-raw) c.body.auto.1.1.1.0 c.fill.ensures
+    filling.with-goes x.v x.i c.may_use.result c.may_use.ensures (not-false c.may_use.result c.if-not-may_use.false-raw) c.word_of.ensures c.push.ensures c.body.ensures (not-false c.body.result c.if-not-body.false-raw) c.body.auto.room c.fill.ensures
 
 pub under-returns-then-left-eq0 : goal.under-returns-then-left-eq0
 under-returns-then-left-eq0 t c = laws.under-flat c.if-left-eq0.true
@@ -484,10 +484,10 @@ pub under-prove_goal-requires : goal.under-prove_goal-requires
 under-prove_goal-requires t c = (omega (arith, c.decreases), tt)
 
 pub under-shape_of-room : goal.under-shape_of-room
-under-shape_of-room t c = c.prove_goal.auto.1.1.1.0 ∙ (c.forget.auto.0 ∙ c.suppose.auto.0)
+under-shape_of-room t c = c.prove_goal.auto.room ∙ (c.forget.auto.room ∙ c.suppose.auto.room)
 
 pub under-returns : goal.under-returns
-under-returns t c = laws.under_goes c.if-left-eq0.false c.further.ensures c.plus.ensures c.supposes.ensures c.past_part.ensures c.in-Next.is c.suppose.ensures c.forget.ensures.0 c.forget.ensures.1 c.prove_goal.ensures
+under-returns t c = laws.under_goes c.if-left-eq0.false c.further.ensures c.plus.ensures c.supposes.ensures c.past_part.ensures c.in-Next.is c.suppose.ensures c.forget.ensures.only c.forget.ensures.gone c.prove_goal.ensures
 
 pub use_clause-returns-in_default : goal.use_clause-returns-in_default
 use_clause-returns-in_default t c = (passing.by-none c.args.k c.open_clause.ensures c.in_default.is, locating.located-no-clause c.args.k)

@@ -6,11 +6,11 @@ use borrow.Author.Rules.{rules}
 use Rattle.proving.proofs.matching.match_term.Goals as goal
 
 pub shape_of-room-in-Is : goal.shape_of-room-in-Is
-shape_of-room-in-Is c = c.force.auto.1.1.1.0
+shape_of-room-in-Is c = c.force.auto.room
 
 pub returns-in-Is : goal.returns-in-Is
 returns-in-Is c = let x = c.before.args in
-    match-variable {f = files_of x.rules.now x.goal.now x.terms.now} {room = x.room.now} {w = x.w} {p = x.p} {x = x.x} {y = x.y} {after = c.force.new.room.1.1.0} c.open_at.ensures c.in-Is.is c.force.ensures
+    match-variable {f = files_of x.rules.now x.goal.now x.terms.now} {room = x.room.now} {w = x.w} {p = x.p} {x = x.x} {y = x.y} {after = c.force.new.room} c.open_at.ensures c.in-Is.is c.force.ensures
 
 pub returns-in-Nothing : goal.returns-in-Nothing
 returns-in-Nothing c = let x = c.before.before.args in

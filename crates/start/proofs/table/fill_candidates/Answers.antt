@@ -9,4 +9,4 @@ highests-requires c = c.starts-n.ensures.few
 
 pub returns : goal.returns
 returns c = let x = c.args in
-    candidates-filled x.room.now c.starts-n.new.room.0 c.put.new.room c.highests.new.room x.terms.now c.starts-n.result c.hold.result c.starts-n.ensures c.hold.ensures c.put.ensures c.highests.ensures
+    candidates-filled x.room.now c.starts-n.new.room c.put.new.room c.highests.new.room x.terms.now c.starts-n.result c.hold.result c.starts-n.ensures c.hold.ensures c.put.ensures c.highests.ensures

@@ -14,7 +14,7 @@ short : (s : Start) → s.args.at + 16 ≤ length s.args.room.now → min (s.arg
 short s h = omega arith
 
 pub shape_of-room : goal.shape_of-room
-shape_of-room c = c.copy.auto.0 ∙ c.put-8.auto.0 ∙ c.put-7.auto.0 ∙ c.put-6.auto.0 ∙ c.put-5.auto.0 ∙ c.put-4.auto.0 ∙ c.put-3.auto.0 ∙ c.put-2.auto.0 ∙ c.put.auto.0
+shape_of-room c = c.copy.auto.room ∙ c.put-8.auto.room ∙ c.put-7.auto.room ∙ c.put-6.auto.room ∙ c.put-5.auto.room ∙ c.put-4.auto.room ∙ c.put-3.auto.room ∙ c.put-2.auto.room ∙ c.put.auto.room
 
 pub returns : goal.returns
 returns c = let x = c.args in let a = x.at in let room = x.room.now in

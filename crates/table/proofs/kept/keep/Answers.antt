@@ -27,6 +27,6 @@ returns-then-is_this c = let x = c.args in
 pub returns : goal.returns
 returns c = let x = c.args in
     let b = inside-bounds c.inside.result (length x.room.now) x.at c.inside.ensures (not-false _ c.if-not-inside.false-raw) in
-    let n = c.note-2.ensures (omega (arith, b.1, c.enter.auto.0)) in
+    let n = c.note-2.ensures (omega (arith, b.1, c.enter.auto.room)) in
     let k = Keeps.new b.0 b.1 (c.fits.ensures (not-false _ c.if-not-fits.false-raw)) (subst (λ (r : List ℕ). Notes r c.note-2.new.room x.at x.height x.found x.choice x.w.top) (c.enter.ensures b.1) n) in
     (keeps-only b.0 k, k)

@@ -19,7 +19,7 @@ returns-then-clause-i t c = let x = c.args in
     let m = c.if-clause-i.true in (
       refl,
       λ f ds us o base count d bs path e h.
-          let n = turns_as x.clause.now x.strip.now d path c.next_turn.result _ c.in-Into.is (c.next_turn.ensures.1 d path h.stands (omega (arith, h.shallow)) h.steps) in
+          let n = turns_as x.clause.now x.strip.now d path c.next_turn.result _ c.in-Into.is (c.next_turn.ensures.turned d path h.stands (omega (arith, h.shallow)) h.steps) in
           absurd (omega (arith, stands-before n.stands)),
     )
 
@@ -28,12 +28,12 @@ returns-then-clause-lt6 t c = let x = c.args in
     let m = c.if-clause-lt6.true in (
       refl,
       λ f ds us o base count d bs path e h.
-          let n = turns_as x.clause.now x.strip.now d path c.next_turn.result _ c.in-Bound.is (c.next_turn.ensures.1 d path h.stands (omega (arith, h.shallow)) h.steps) in
+          let n = turns_as x.clause.now x.strip.now d path c.next_turn.result _ c.in-Bound.is (c.next_turn.ensures.turned d path h.stands (omega (arith, h.shallow)) h.steps) in
           absurd (omega (arith, stands-before n.stands)),
     )
 
 pub bind-requires : goal.bind-requires
-bind-requires t c = let l = small-as c.next_turn.result _ c.in-Bound.is c.next_turn.ensures.0 in
+bind-requires t c = let l = small-as c.next_turn.result _ c.in-Bound.is c.next_turn.ensures.small in
     search rules
 
 pub returns-then-not-bind : goal.returns-then-not-bind
@@ -41,7 +41,7 @@ returns-then-not-bind t c = let x = c.args in
     let b = binds-as x.room.now _ x.top c.in-Bound.n x.parameters c.bind.result false (not-true c.bind.result c.if-not-bind.true-raw) c.bind.ensures in (
       ap (take x.top) b.0,
       λ f ds us o base count d bs path e h.
-          let n = turns_as x.clause.now x.strip.now d path c.next_turn.result _ c.in-Bound.is (c.next_turn.ensures.1 d path h.stands (omega (arith, h.shallow)) h.steps) in
+          let n = turns_as x.clause.now x.strip.now d path c.next_turn.result _ c.in-Bound.is (c.next_turn.ensures.turned d path h.stands (omega (arith, h.shallow)) h.steps) in
           bound-shut h o e n b,
     )
 
@@ -53,26 +53,26 @@ overflow_add-top t c = let x = c.args in
 
 pub returns-in-Nothing : goal.returns-in-Nothing
 returns-in-Nothing t c = let x = c.args in
-    (refl, λ f ds us o base count d bs path e h. follow-none h o (turns_as x.clause.now x.strip.now d path c.next_turn.result _ c.in-Nothing.is (c.next_turn.ensures.1 d path h.stands (omega (arith, h.shallow)) h.steps)))
+    (refl, λ f ds us o base count d bs path e h. follow-none h o (turns_as x.clause.now x.strip.now d path c.next_turn.result _ c.in-Nothing.is (c.next_turn.ensures.turned d path h.stands (omega (arith, h.shallow)) h.steps)))
 
 pub returns-in-Ended : goal.returns-in-Ended
 returns-in-Ended t c = let x = c.args in
-    (refl, λ f ds us o base count d bs path e h. follow-ended h o (turns_as x.clause.now x.strip.now d path c.next_turn.result _ c.in-Ended.is (c.next_turn.ensures.1 d path h.stands (omega (arith, h.shallow)) h.steps)))
+    (refl, λ f ds us o base count d bs path e h. follow-ended h o (turns_as x.clause.now x.strip.now d path c.next_turn.result _ c.in-Ended.is (c.next_turn.ensures.turned d path h.stands (omega (arith, h.shallow)) h.steps)))
 
 pub returns-else-clause-i : goal.returns-else-clause-i
 returns-else-clause-i t c = let x = c.args in (
-  c.follow.ensures.0,
+  c.follow.ensures.kept,
   λ f ds us o base count d bs path e h.
-      let n = turns_as x.clause.now x.strip.now d path c.next_turn.result _ c.in-Into.is (c.next_turn.ensures.1 d path h.stands (omega (arith, h.shallow)) h.steps) in
-      into-followed h o e c.if-nest-eq0.false n _ (rest-whole x.clause.now c.in-Into.i) _ c.follow.result c.follow.ensures.1,
+      let n = turns_as x.clause.now x.strip.now d path c.next_turn.result _ c.in-Into.is (c.next_turn.ensures.turned d path h.stands (omega (arith, h.shallow)) h.steps) in
+      into-followed h o e c.if-nest-eq0.false n _ (rest-whole x.clause.now c.in-Into.i) _ c.follow.result c.follow.ensures.followed,
 )
 
 pub returns-else-not-bind : goal.returns-else-not-bind
 returns-else-not-bind t c = let x = c.args in
     let b = binds-as x.room.now _ x.top c.in-Bound.n x.parameters c.bind.result true (not-false c.bind.result c.if-not-bind.false-raw) c.bind.ensures in
-    let l = small-as c.next_turn.result _ c.in-Bound.is c.next_turn.ensures.0 in (
-      bound-kept x.room.now _ _ x.top c.in-Bound.n x.parameters b c.follow-in-Bound.ensures.0,
+    let l = small-as c.next_turn.result _ c.in-Bound.is c.next_turn.ensures.small in (
+      bound-kept x.room.now _ _ x.top c.in-Bound.n x.parameters b c.follow-in-Bound.ensures.kept,
       λ f ds us o base count d bs path e h.
-          let n = turns_as x.clause.now x.strip.now d path c.next_turn.result _ c.in-Bound.is (c.next_turn.ensures.1 d path h.stands (omega (arith, h.shallow)) h.steps) in
-          bound-followed h o e n c.if-nest-eq0.false l b _ (rest-whole x.clause.now 6) _ c.follow-in-Bound.result c.follow-in-Bound.ensures.1,
+          let n = turns_as x.clause.now x.strip.now d path c.next_turn.result _ c.in-Bound.is (c.next_turn.ensures.turned d path h.stands (omega (arith, h.shallow)) h.steps) in
+          bound-followed h o e n c.if-nest-eq0.false l b _ (rest-whole x.clause.now 6) _ c.follow-in-Bound.result c.follow-in-Bound.ensures.followed,
     )

@@ -16,7 +16,7 @@ pub returns-in_default : goal.returns-in_default
 returns-in_default c = let x = c.args in
     λ ds us P o d bs g e ready.
     let (k, steps, more, q) = use-shape P e in
-    let t = asks-as x.strip.now x.at k c.asked_for.result _ c.in_default.is (c.asked_for.ensures.1 k steps more (use-stands ready k steps more q)) in
+    let t = asks-as x.strip.now x.at k c.asked_for.result _ c.in_default.is (c.asked_for.ensures.asks k steps more (use-stands ready k steps more q)) in
     enter-far ready k steps more q t
 
 pub returns-then-not-is_word : goal.returns-then-not-is_word
@@ -27,14 +27,14 @@ returns-then-not-is_word c = let x = c.args in
 
 pub use_clause-requires : goal.use_clause-requires
 use_clause-requires c = let x = c.args in
-    let l = inside-as x.strip.now c.asked_for.result _ c.in-Of.is c.asked_for.ensures.0 in
+    let l = inside-as x.strip.now c.asked_for.result _ c.in-Of.is c.asked_for.ensures.inside in
     search rules
 
 pub returns : goal.returns
 returns c = let x = c.args in
     λ ds us P o d bs g e ready.
     let (k, steps, more, q) = use-shape P e in
-    let t = asks-as x.strip.now x.at k c.asked_for.result _ c.in-Of.is (c.asked_for.ensures.1 k steps more (use-stands ready k steps more q)) in
+    let t = asks-as x.strip.now x.at k c.asked_for.result _ c.in-Of.is (c.asked_for.ensures.asks k steps more (use-stands ready k steps more q)) in
     let (a, s) = goal-atom (file_of x.rules.now x.goal.now x.terms.now x.w.goal.source) _ x.w.goal.at c.part-g.ensures g (told-yes (not-false c.is_word.result c.if-not-is_word.false-raw) c.is_word.ensures) ready.place.framed.stands in
     let r = subst (λ (i : ℕ). P ≡ use_of i steps more) (sym t.0) q in
     let m = t.1 ∙ ap (λ (i : ℕ). x.at + 6 + width (number i)) (sym t.0) in

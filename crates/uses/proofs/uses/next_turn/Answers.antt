@@ -16,11 +16,11 @@ returns-in_default c = let x = c.args in
 
 pub returns-then-is_word : goal.returns-then-is_word
 returns-then-is_word c = let x = c.args in
-    (c.at_and.ensures.0, λ d path k l h. turn-and x.clause.now x.strip.now x.at c.in-Next.next c.at_and.result d path (closes-no c.closes.ensures c.if-closes.false) (past_next c.in-Next.is c.past.ensures) (told-yes c.if-is_word.true c.is_word.ensures) c.at_and.ensures.1 k l h)
+    (c.at_and.ensures.small, λ d path k l h. turn-and x.clause.now x.strip.now x.at c.in-Next.next c.at_and.result d path (closes-no c.closes.ensures c.if-closes.false) (past_next c.in-Next.is c.past.ensures) (told-yes c.if-is_word.true c.is_word.ensures) c.at_and.ensures.turned k l h)
 
 pub returns-then-is_word-2 : goal.returns-then-is_word-2
 returns-then-is_word-2 c = let x = c.args in
-    (c.at_all.ensures.0, λ d path k l h. turn-all x.clause.now x.strip.now x.at c.in-Next.next c.at_all.result d path (closes-no c.closes.ensures c.if-closes.false) (past_next c.in-Next.is c.past.ensures) (told-yes c.if-is_word-2.true c.is_word-2.ensures) c.at_all.ensures.1 k h)
+    (c.at_all.ensures.small, λ d path k l h. turn-all x.clause.now x.strip.now x.at c.in-Next.next c.at_all.result d path (closes-no c.closes.ensures c.if-closes.false) (past_next c.in-Next.is c.past.ensures) (told-yes c.if-is_word-2.true c.is_word-2.ensures) c.at_all.ensures.turned k h)
 
 pub returns : goal.returns
 returns c = let x = c.args in

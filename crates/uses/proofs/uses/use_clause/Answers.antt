@@ -26,33 +26,33 @@ pub returns-in_default-follow : goal.returns-in_default-follow
 returns-in_default-follow c = let x = c.args in
     λ ds us at steps more o d bs a u.
     let p = opened-clause u.place x.k _ c.in-Clause.x (opened-as x.room.now _ x.k x.w.supposed x.w.top c.open_clause.result _ c.in-Clause.is c.open_clause.ensures) in
-    let z = reaches-as _ _ us o (follow (listed us) o p.hand.clause p.hand.bindings steps) c.in-Clause.x.base c.follow.result _ c.in_default-follow.is (c.follow.ensures.1 (files_of x.rules.now x.goal.now x.terms.now) ds us o c.in-Clause.x.base c.in-Clause.x.count p.hand.clause p.hand.bindings steps u.place.openly (open-following u p _ c.part-clause.ensures)) in
-    use-lost u p _ c.follow.ensures.0 z
+    let z = reaches-as _ _ us o (follow (listed us) o p.hand.clause p.hand.bindings steps) c.in-Clause.x.base c.follow.result _ c.in_default-follow.is (c.follow.ensures.followed (files_of x.rules.now x.goal.now x.terms.now) ds us o c.in-Clause.x.base c.in-Clause.x.count p.hand.clause p.hand.bindings steps u.place.openly (open-following u p _ c.part-clause.ensures)) in
+    use-lost u p _ c.follow.ensures.kept z
 
 pub returns-then-whole-left : goal.returns-then-whole-left
 returns-then-whole-left c = let x = c.args in
     let m = c.if-whole-left.true in
     λ ds us at steps more o d bs a u.
     let p = opened-clause u.place x.k _ c.in-Clause.x (opened-as x.room.now _ x.k x.w.supposed x.w.top c.open_clause.result _ c.in-Clause.is c.open_clause.ensures) in
-    let z = reaches-as _ _ us o (follow (listed us) o p.hand.clause p.hand.bindings steps) c.in-Clause.x.base c.follow.result _ c.in-At.is (c.follow.ensures.1 (files_of x.rules.now x.goal.now x.terms.now) ds us o c.in-Clause.x.base c.in-Clause.x.count p.hand.clause p.hand.bindings steps u.place.openly (open-following u p _ c.part-clause.ensures)) in
-    absurd (omega (arith, left-inside u p _ c.follow.ensures.0 c.part-clause.ensures z _ (ap length c.part-whole.ensures)))
+    let z = reaches-as _ _ us o (follow (listed us) o p.hand.clause p.hand.bindings steps) c.in-Clause.x.base c.follow.result _ c.in-At.is (c.follow.ensures.followed (files_of x.rules.now x.goal.now x.terms.now) ds us o c.in-Clause.x.base c.in-Clause.x.count p.hand.clause p.hand.bindings steps u.place.openly (open-following u p _ c.part-clause.ensures)) in
+    absurd (omega (arith, left-inside u p _ c.follow.ensures.kept c.part-clause.ensures z _ (ap length c.part-whole.ensures)))
 
 pub returns-then-end-w : goal.returns-then-end-w
 returns-then-end-w c = let x = c.args in
     let m = c.if-end-w.true in
     λ ds us at steps more o d bs a u.
     let p = opened-clause u.place x.k _ c.in-Clause.x (opened-as x.room.now _ x.k x.w.supposed x.w.top c.open_clause.result _ c.in-Clause.is c.open_clause.ensures) in
-    let z = reaches-as _ _ us o (follow (listed us) o p.hand.clause p.hand.bindings steps) c.in-Clause.x.base c.follow.result _ c.in-At.is (c.follow.ensures.1 (files_of x.rules.now x.goal.now x.terms.now) ds us o c.in-Clause.x.base c.in-Clause.x.count p.hand.clause p.hand.bindings steps u.place.openly (open-following u p _ c.part-clause.ensures)) in
-    absurd (omega (arith, end-above u p _ c.follow.ensures.0 c.part-clause.ensures z))
+    let z = reaches-as _ _ us o (follow (listed us) o p.hand.clause p.hand.bindings steps) c.in-Clause.x.base c.follow.result _ c.in-At.is (c.follow.ensures.followed (files_of x.rules.now x.goal.now x.terms.now) ds us o c.in-Clause.x.base c.in-Clause.x.count p.hand.clause p.hand.bindings steps u.place.openly (open-following u p _ c.part-clause.ensures)) in
+    absurd (omega (arith, end-above u p _ c.follow.ensures.kept c.part-clause.ensures z))
 
 pub shape_of-room : goal.shape_of-room
-shape_of-room c = c.follow.auto.1.1.1.0 ∙ c.open_clause.auto.0
+shape_of-room c = c.follow.auto.room ∙ c.open_clause.auto.room
 
 pub returns : goal.returns
 returns c = let x = c.before.args in
     λ ds us at steps more o d bs a u.
     let p = opened-clause u.place x.k _ c.in-Clause.x (opened-as x.room.now _ x.k x.w.supposed x.w.top c.open_clause.result _ c.in-Clause.is c.open_clause.ensures) in
-    let z = reaches-as _ _ us o (follow (listed us) o p.hand.clause p.hand.bindings steps) c.in-Clause.x.base c.follow.result _ c.in-At.is (c.follow.ensures.1 (files_of x.rules.now x.goal.now x.terms.now) ds us o c.in-Clause.x.base c.in-Clause.x.count p.hand.clause p.hand.bindings steps u.place.openly (open-following u p _ c.part-clause.ensures)) in
-    use-says u p _ c.follow.ensures.0 c.part-clause.ensures z
+    let z = reaches-as _ _ us o (follow (listed us) o p.hand.clause p.hand.bindings steps) c.in-Clause.x.base c.follow.result _ c.in-At.is (c.follow.ensures.followed (files_of x.rules.now x.goal.now x.terms.now) ds us o c.in-Clause.x.base c.in-Clause.x.count p.hand.clause p.hand.bindings steps u.place.openly (open-following u p _ c.part-clause.ensures)) in
+    use-says u p _ c.follow.ensures.kept c.part-clause.ensures z
     (c.conclude.ensures ds us at x.k steps more o d bs a z.last z.bindings
-    (use-end u p _ c.follow.ensures.0 c.part-clause.ensures z _ (ap length c.part-whole.ensures) c.follow.auto.1.1.1.0))
+    (use-end u p _ c.follow.ensures.kept c.part-clause.ensures z _ (ap length c.part-whole.ensures) c.follow.auto.room))

@@ -25,12 +25,12 @@ write-all-cast-t18 : (t : ℕ) → write-all-lts.Need-overflow-cast-t18 (nothing
 write-all-cast-t18 t c = search rules
 
 pub path_all-shape_of-room : goal.path_all-shape_of-room
-path_all-shape_of-room t c = c.write_path.auto.1.1.1.0 ∙ (c.push.auto.0 ∙ c.number_through-i.auto.1.1.1.0)
+path_all-shape_of-room t c = c.write_path.auto.room ∙ (c.push.auto.room ∙ c.number_through-i.auto.room)
 
 pub path_all-returns : goal.path_all-returns
 path_all-returns t c = let x = c.args in
     let i = c.number_through-i.result in
-    pathing.all-with x.nest i x.located c.number_through-i.ensures c.number_through-i.auto.1.1.1.0 c.put_number-m.ensures c.deeper.ensures (pathing.pathing-from (c.push.ensures ∙ ap (λ (j : ℕ). set c.number_through-i.new.room.1.1.0 j (held (binding_word (Candidate i)))) c.plus.ensures) (pathing.pathing-lent c.cut-from.ensures c.behind.ensures c.write_path.ensures))
+    pathing.all-with x.nest i x.located c.number_through-i.ensures c.number_through-i.auto.room c.put_number-m.ensures c.deeper.ensures (pathing.pathing-from (c.push.ensures ∙ ap (λ (j : ℕ). set c.number_through-i.new.room j (held (binding_word (Candidate i)))) c.plus.ensures) (pathing.pathing-lent c.cut-from.ensures c.behind.ensures c.write_path.ensures))
 
 pub path_and-returns-in_default : goal.path_and-returns-in_default
 path_and-returns-in_default t c = pathing.and-lost c.args.nest c.past_part.ensures c.in_default.is
@@ -39,13 +39,13 @@ pub path_and-write_path-requires : goal.path_and-write_path-requires
 path_and-write_path-requires t c = (omega (arith, c.decreases), tt)
 
 pub path_and-returns-then-through : goal.path_and-returns-then-through
-path_and-returns-then-through t c = pathing.and_left c.args.nest c.further.ensures c.through.ensures.0 c.if-through.true c.through.auto.1.1.1.0 c.put-m.ensures c.further-then-through.ensures (pathing.pathing-lent c.cut-from.ensures c.behind.ensures c.write_path.ensures)
+path_and-returns-then-through t c = pathing.and_left c.args.nest c.further.ensures c.through.ensures.0 c.if-through.true c.through.auto.room c.put-m.ensures c.further-then-through.ensures (pathing.pathing-lent c.cut-from.ensures c.behind.ensures c.write_path.ensures)
 
 pub path_and-write_path-requires-2 : goal.path_and-write_path-requires-2
 path_and-write_path-requires-2 t c = (omega (arith, c.decreases), tt)
 
 pub path_and-returns : goal.path_and-returns
-path_and-returns t c = pathing.and_right c.args.nest c.past_part.ensures c.in-Next.is c.further.ensures c.through.ensures.0 c.if-through.false c.through.auto.1.1.1.0 c.put-m-2.ensures c.further-2.ensures (pathing.pathing-lent c.cut-from-2.ensures c.behind-2.ensures c.write_path-2.ensures)
+path_and-returns t c = pathing.and_right c.args.nest c.past_part.ensures c.in-Next.is c.further.ensures c.through.ensures.0 c.if-through.false c.through.auto.room c.put-m-2.ensures c.further-2.ensures (pathing.pathing-lent c.cut-from-2.ensures c.behind-2.ensures c.write_path-2.ensures)
 
 pub write_all-returns-then-w-ge64 : goal.write_all-returns-then-w-ge64
 write_all-returns-then-w-ge64 t c = writing.all-full c.if-w-ge64.true
@@ -54,7 +54,7 @@ pub write_all-write_goal-requires : goal.write_all-write_goal-requires
 write_all-write_goal-requires t c = (omega (arith, c.decreases), tt)
 
 pub write_all-shape_of-room : goal.write_all-shape_of-room
-write_all-shape_of-room t c = c.write_goal.auto.1.1.1.0 ∙ c.push.auto.0
+write_all-shape_of-room t c = c.write_goal.auto.room ∙ c.push.auto.room
 
 pub write_all-returns : goal.write_all-returns
 write_all-returns t c = writing.all-drawn (c.args.w.parameters + 1) refl c.put-m.ensures c.bound.ensures (writing.writing-from c.push.ensures (pathing.writing-lent c.cut-from.ensures c.behind-a.ensures c.write_goal.ensures)) c.close.ensures
@@ -70,13 +70,13 @@ pub write_both-write_goal-requires-2 : goal.write_both-write_goal-requires-2
 write_both-write_goal-requires-2 t c = (omega (arith, c.decreases), tt)
 
 pub write_both-shape_of-room : goal.write_both-shape_of-room
-write_both-shape_of-room t c = c.write_goal-2.auto.1.1.1.0 ∙ c.write_goal.auto.1.1.1.0
+write_both-shape_of-room t c = c.write_goal-2.auto.room ∙ c.write_goal.auto.room
 
 pub write_both-shape_of-strip : goal.write_both-shape_of-strip
-write_both-shape_of-strip t c = c.close.auto.0 ∙ (pathing.lent_length c.cut-from-2.result c.behind-a.result.at (put_mid c.cut-from.result (length c.put-m.new.buf - c.cut-from.result) c.put-m.new.buf c.write_goal.new.strip.1.1.1.0) c.write_goal-2.new.strip.1.1.1.0 c.cut-from-2.ensures c.write_goal-2.auto.1.1.1.1.0 ∙ (pathing.lent_length c.cut-from.result c.put-m.result c.put-m.new.buf c.write_goal.new.strip.1.1.1.0 c.cut-from.ensures c.write_goal.auto.1.1.1.1.0 ∙ c.put-m.auto.0))
+write_both-shape_of-strip t c = c.close.auto.strip ∙ (pathing.lent_length c.cut-from-2.result c.behind-a.result.at (put_mid c.cut-from.result (length c.put-m.new.buf - c.cut-from.result) c.put-m.new.buf c.write_goal.new.strip) c.write_goal-2.new.strip c.cut-from-2.ensures c.write_goal-2.auto.strip ∙ (pathing.lent_length c.cut-from.result c.put-m.result c.put-m.new.buf c.write_goal.new.strip c.cut-from.ensures c.write_goal.auto.strip ∙ c.put-m.auto.buf))
 
 pub write_both-returns : goal.write_both-returns
-write_both-returns t c = writing.both-drawn c.past_part.ensures c.in-Next.is c.put-m.ensures c.within.ensures (pathing.writing-lent c.cut-from.ensures c.behind-a.ensures c.write_goal.ensures) c.write_goal.auto.1.1.1.0 c.within-2.ensures (pathing.writing-lent c.cut-from-2.ensures c.behind-b.ensures c.write_goal-2.ensures) c.beside.ensures c.close.ensures
+write_both-returns t c = writing.both-drawn c.past_part.ensures c.in-Next.is c.put-m.ensures c.within.ensures (pathing.writing-lent c.cut-from.ensures c.behind-a.ensures c.write_goal.ensures) c.write_goal.auto.room c.within-2.ensures (pathing.writing-lent c.cut-from-2.ensures c.behind-b.ensures c.write_goal-2.ensures) c.beside.ensures c.close.ensures
 
 pub write_either-returns-in_default : goal.write_either-returns-in_default
 write_either-returns-in_default t c = writing.either-lost c.past_part.ensures c.in_default.is
@@ -85,19 +85,19 @@ pub write_either-write_goal-requires : goal.write_either-write_goal-requires
 write_either-write_goal-requires t c = (omega (arith, c.decreases), tt)
 
 pub write_either-shape_of-room-then-prove_goal : goal.write_either-shape_of-room-then-prove_goal
-write_either-shape_of-room-then-prove_goal t c = c.write_goal.auto.1.1.1.0 ∙ c.prove_goal.auto.1.1.1.0
+write_either-shape_of-room-then-prove_goal t c = c.write_goal.auto.room ∙ c.prove_goal.auto.room
 
 pub write_either-returns-then-prove_goal : goal.write_either-returns-then-prove_goal
-write_either-returns-then-prove_goal t c = writing.either_left c.within.ensures c.prove_goal.ensures c.if-prove_goal.true c.prove_goal.auto.1.1.1.0 c.put-m.ensures c.within-then-prove_goal.ensures (pathing.writing-lent c.cut-from.ensures c.behind-a.ensures c.write_goal.ensures) c.close.ensures
+write_either-returns-then-prove_goal t c = writing.either_left c.within.ensures c.prove_goal.ensures c.if-prove_goal.true c.prove_goal.auto.room c.put-m.ensures c.within-then-prove_goal.ensures (pathing.writing-lent c.cut-from.ensures c.behind-a.ensures c.write_goal.ensures) c.close.ensures
 
 pub write_either-write_goal-requires-2 : goal.write_either-write_goal-requires-2
 write_either-write_goal-requires-2 t c = (omega (arith, c.decreases), tt)
 
 pub write_either-shape_of-room : goal.write_either-shape_of-room
-write_either-shape_of-room t c = c.write_goal-2.auto.1.1.1.0 ∙ c.prove_goal.auto.1.1.1.0
+write_either-shape_of-room t c = c.write_goal-2.auto.room ∙ c.prove_goal.auto.room
 
 pub write_either-returns : goal.write_either-returns
-write_either-returns t c = writing.either-right c.past_part.ensures c.in-Next.is c.within.ensures c.prove_goal.ensures c.if-prove_goal.false c.prove_goal.auto.1.1.1.0 c.put-m-2.ensures c.within-2.ensures (pathing.writing-lent c.cut-from-2.ensures c.behind-a-2.ensures c.write_goal-2.ensures) c.close-2.ensures
+write_either-returns t c = writing.either-right c.past_part.ensures c.in-Next.is c.within.ensures c.prove_goal.ensures c.if-prove_goal.false c.prove_goal.auto.room c.put-m-2.ensures c.within-2.ensures (pathing.writing-lent c.cut-from-2.ensures c.behind-a-2.ensures c.write_goal-2.ensures) c.close-2.ensures
 
 pub write_goal-returns-then-height-eq0 : goal.write_goal-returns-then-height-eq0
 write_goal-returns-then-height-eq0 t c = writing.no-height c.args.height c.if-height-eq0.true
@@ -163,13 +163,13 @@ pub write_some-write_goal-requires : goal.write_some-write_goal-requires
 write_some-write_goal-requires t c = (omega (arith, c.decreases), tt)
 
 pub write_some-shape_of-room : goal.write_some-shape_of-room
-write_some-shape_of-room t c = c.write_goal.auto.1.1.1.0 ∙ (c.push.auto.0 ∙ c.first_with-i.auto.1.1.1.0)
+write_some-shape_of-room t c = c.write_goal.auto.room ∙ (c.push.auto.room ∙ c.first_with-i.auto.room)
 
 pub write_some-shape_of-strip : goal.write_some-shape_of-strip
-write_some-shape_of-strip t c = c.close.auto.0 ∙ (pathing.lent_length c.cut-from.result c.put_number-m.result c.put_number-m.new.buf c.write_goal.new.strip.1.1.1.0 c.cut-from.ensures c.write_goal.auto.1.1.1.1.0 ∙ (c.put_number-m.auto.0 ∙ c.put-m.auto.0))
+write_some-shape_of-strip t c = c.close.auto.strip ∙ (pathing.lent_length c.cut-from.result c.put_number-m.result c.put_number-m.new.buf c.write_goal.new.strip c.cut-from.ensures c.write_goal.auto.strip ∙ (c.put_number-m.auto.buf ∙ c.put-m.auto.buf))
 
 pub write_some-returns : goal.write_some-returns
-write_some-returns t c = writing.some-drawn c.first_with-i.result c.first_with-i.ensures c.first_with-i.auto.1.1.1.0 c.put-m.ensures c.put_number-m.ensures c.bound.ensures (writing.writing-from c.push.ensures (pathing.writing-lent c.cut-from.ensures c.behind-a.ensures c.write_goal.ensures)) c.close.ensures
+write_some-returns t c = writing.some-drawn c.first_with-i.result c.first_with-i.ensures c.first_with-i.auto.room c.put-m.ensures c.put_number-m.ensures c.bound.ensures (writing.writing-from c.push.ensures (pathing.writing-lent c.cut-from.ensures c.behind-a.ensures c.write_goal.ensures)) c.close.ensures
 
 pub write_under-returns-then-left-eq0 : goal.write_under-returns-then-left-eq0
 write_under-returns-then-left-eq0 t c = writing.under-flat c.if-left-eq0.true
@@ -181,22 +181,22 @@ pub write_under-write_goal-requires : goal.write_under-write_goal-requires
 write_under-write_goal-requires t c = (omega (arith, c.decreases), tt)
 
 pub write_under-shape_of-room : goal.write_under-shape_of-room
-write_under-shape_of-room t c = c.write_goal.auto.1.1.1.0 ∙ (c.forget.auto.0 ∙ c.suppose.auto.0)
+write_under-shape_of-room t c = c.write_goal.auto.room ∙ (c.forget.auto.room ∙ c.suppose.auto.room)
 
 pub write_under-returns : goal.write_under-returns
-write_under-returns t c = writing.under-drawn c.if-left-eq0.false c.past_part.ensures c.in-Next.is c.further.ensures c.suppose.ensures c.plus.ensures c.forget.ensures.0 c.forget.ensures.1 c.put-m.ensures c.supposes.ensures (pathing.writing-lent c.cut-from.ensures c.behind-a.ensures c.write_goal.ensures) c.close.ensures
+write_under-returns t c = writing.under-drawn c.if-left-eq0.false c.past_part.ensures c.in-Next.is c.further.ensures c.suppose.ensures c.plus.ensures c.forget.ensures.only c.forget.ensures.gone c.put-m.ensures c.supposes.ensures (pathing.writing-lent c.cut-from.ensures c.behind-a.ensures c.write_goal.ensures) c.close.ensures
 
 pub write_use-returns-in_default : goal.write_use-returns-in_default
-write_use-returns-in_default t c = pathing.use-none c.first_clause-k.result c.first_clause-k.ensures.0 c.first_clause-k.auto.1.1.1.0 c.open_clause.ensures c.in_default.is
+write_use-returns-in_default t c = pathing.use-none c.first_clause-k.result c.first_clause-k.ensures.0 c.first_clause-k.auto.room c.open_clause.ensures c.in_default.is
 
 pub write_use-write_path-requires : goal.write_use-write_path-requires
 write_use-write_path-requires t c = (omega (arith, c.decreases), tt)
 
 pub write_use-shape_of-room : goal.write_use-shape_of-room
-write_use-shape_of-room t c = c.write_path.auto.1.1.1.0 ∙ (c.open_clause.auto.0 ∙ c.first_clause-k.auto.1.1.1.0)
+write_use-shape_of-room t c = c.write_path.auto.room ∙ (c.open_clause.auto.room ∙ c.first_clause-k.auto.room)
 
 pub write_use-shape_of-strip : goal.write_use-shape_of-strip
-write_use-shape_of-strip t c = c.close.auto.0 ∙ (pathing.lent_length c.cut-from.result c.put-m-2.result c.put-m-2.new.buf c.write_path.new.strip.1.1.1.0 c.cut-from.ensures c.write_path.auto.1.1.1.1.0 ∙ (c.put-m-2.auto.0 ∙ (c.put_number-m.auto.0 ∙ c.put-m.auto.0)))
+write_use-shape_of-strip t c = c.close.auto.strip ∙ (pathing.lent_length c.cut-from.result c.put-m-2.result c.put-m-2.new.buf c.write_path.new.strip c.cut-from.ensures c.write_path.auto.strip ∙ (c.put-m-2.auto.buf ∙ (c.put_number-m.auto.buf ∙ c.put-m.auto.buf)))
 
 pub write_use-returns : goal.write_use-returns
-write_use-returns t c = pathing.use-drawn c.first_clause-k.result c.first_clause-k.ensures.0 c.first_clause-k.auto.1.1.1.0 c.first_clause-k.ensures.1 c.open_clause.ensures c.in-Clause.is c.is_plain-located.ensures c.put-m.ensures c.put_number-m.ensures c.put-m-2.ensures (pathing.pathing-lent c.cut-from.ensures c.behind-a.ensures c.write_path.ensures) c.close.ensures
+write_use-returns t c = pathing.use-drawn c.first_clause-k.result c.first_clause-k.ensures.0 c.first_clause-k.auto.room c.first_clause-k.ensures.1 c.open_clause.ensures c.in-Clause.is c.is_plain-located.ensures c.put-m.ensures c.put_number-m.ensures c.put-m-2.ensures (pathing.pathing-lent c.cut-from.ensures c.behind-a.ensures c.write_path.ensures) c.close.ensures
