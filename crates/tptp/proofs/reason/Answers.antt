@@ -32,19 +32,19 @@ returns-then-p-2 c =
 pub returns-then-not-fits : goal.returns-then-not-fits
 returns-then-not-fits c =
     let x = c.args in
-    let t = c.fits2 in
+    let t = c.fits in
     rules-long-reason x.p x.rules x.goal t.result (not-false x.p.ok c.if-not-p.false) c.if-p-ne1.false c.if-p-gt256.false c.if-p.false c.if-p-2.false t.ensures (not-true t.result c.if-not-fits.true-raw)
 
 pub returns-then-not-fits-2 : goal.returns-then-not-fits-2
 returns-then-not-fits-2 c =
     let x = c.args in
-    let t = c.fits-2 in
-    let u = c.fits3 in
+    let t = c.fits in
+    let u = c.fits-2 in
     goal-long-reason x.p x.rules x.goal t.result u.result (not-false x.p.ok c.if-not-p.false) c.if-p-ne1.false c.if-p-gt256.false c.if-p.false c.if-p-2.false t.ensures (not-false t.result c.if-not-fits.false-raw) u.ensures (not-true u.result c.if-not-fits-2.true-raw)
 
 pub returns : goal.returns
 returns c =
     let x = c.args in
-    let t = c.fits-2 in
-    let u = c.fits3 in
+    let t = c.fits in
+    let u = c.fits-2 in
     no-reason x.p x.rules x.goal t.result u.result (not-false x.p.ok c.if-not-p.false) c.if-p-ne1.false c.if-p-gt256.false c.if-p.false c.if-p-2.false t.ensures (not-false t.result c.if-not-fits.false-raw) u.ensures (not-false u.result c.if-not-fits-2.false-raw)

@@ -19,7 +19,7 @@ pub returns-then-n-ne0 : goal.returns-then-n-ne0
 returns-then-n-ne0 c =
     let x = c.args in
     let s = c.sound_text in
-    let m = c.decreases in
+    let m = c.measured in
     let n = c.reason-n in
     refused-lines x.text.now x.rules.now x.goal.now s.result m.result n.result c.refused-then-n-ne0.result c.if-text-gt16384.false s.ensures (not-false s.result c.if-not-sound_text.false-raw) m.ensures n.ensures c.if-n-ne0.true c.refused-then-n-ne0.ensures
 
@@ -27,7 +27,7 @@ pub returns : goal.returns
 returns c =
     let x = c.args in
     let s = c.sound_text in
-    let m = c.decreases in
+    let m = c.measured in
     let n = c.reason-n in
     let q = c.pass-p in
     written-lines x.text.now x.rules.now q.new.rules x.goal.now q.new.goal s.result m.result q.result n.result c.if-text-gt16384.false s.ensures (not-false s.result c.if-not-sound_text.false-raw) m.ensures n.ensures c.if-n-ne0.false q.ensures
