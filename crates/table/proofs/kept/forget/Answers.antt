@@ -31,4 +31,4 @@ shape_of-room c = c.loop-room.invariant.1.1.long
 pub returns : goal.returns
 returns c = let x = c.args in let l = c.loop-room in
     let e = inside-not c.inside.result (length l.room) l.at c.inside.ensures c.loop-room-test.false l.invariant.0 in
-    (cleared-only (λ (mark : ℕ). mark ≡ x.supposed + 1 → ⊥) x.room.now l.room l.at l.invariant.1.1, forgotten-all x.room.now l.room x.supposed l.at l.invariant.1.1 e)
+    record { only = cleared-only (λ (mark : ℕ). mark ≡ x.supposed + 1 → ⊥) x.room.now l.room l.at l.invariant.1.1; gone = forgotten-all x.room.now l.room x.supposed l.at l.invariant.1.1 e }

@@ -12,7 +12,7 @@ use Prim.Native.Nat.{ℕ, ◌<◌}
 use Rattle.uses.proofs.uses.+follow.Goals as goal
 
 pub returns-then-nest-eq0 : goal.returns-then-nest-eq0
-returns-then-nest-eq0 t c = (refl, λ f ds us o base count d bs path e h. absurd (follow-shut h o c.if-nest-eq0.true))
+returns-then-nest-eq0 t c = record { kept = refl; followed = λ f ds us o base count d bs path e h. absurd (follow-shut h o c.if-nest-eq0.true) }
 
 pub returns-then-clause-i : goal.returns-then-clause-i
 returns-then-clause-i t c = let x = c.args in
@@ -53,11 +53,11 @@ overflow_add-top t c = let x = c.args in
 
 pub returns-in-Nothing : goal.returns-in-Nothing
 returns-in-Nothing t c = let x = c.args in
-    (refl, λ f ds us o base count d bs path e h. follow-none h o (turns_as x.clause.now x.strip.now d path c.next_turn.result _ c.in-Nothing.is (c.next_turn.ensures.turned d path h.stands (omega (arith, h.shallow)) h.steps)))
+    record { kept = refl; followed = λ f ds us o base count d bs path e h. follow-none h o (turns_as x.clause.now x.strip.now d path c.next_turn.result _ c.in-Nothing.is (c.next_turn.ensures.turned d path h.stands (omega (arith, h.shallow)) h.steps)) }
 
 pub returns-in-Ended : goal.returns-in-Ended
 returns-in-Ended t c = let x = c.args in
-    (refl, λ f ds us o base count d bs path e h. follow-ended h o (turns_as x.clause.now x.strip.now d path c.next_turn.result _ c.in-Ended.is (c.next_turn.ensures.turned d path h.stands (omega (arith, h.shallow)) h.steps)))
+    record { kept = refl; followed = λ f ds us o base count d bs path e h. follow-ended h o (turns_as x.clause.now x.strip.now d path c.next_turn.result _ c.in-Ended.is (c.next_turn.ensures.turned d path h.stands (omega (arith, h.shallow)) h.steps)) }
 
 pub returns-else-clause-i : goal.returns-else-clause-i
 returns-else-clause-i t c = let x = c.args in (

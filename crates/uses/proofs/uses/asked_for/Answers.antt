@@ -12,17 +12,17 @@ use Rattle.uses.proofs.uses.asked_for.Goals as goal
 
 pub returns-then-strip-at : goal.returns-then-strip-at
 returns-then-strip-at c = let x = c.args in
-    (tt, λ k steps more h. absurd (omega (arith, stands-before h, c.if-strip-at.true)))
+    record { inside = tt; asks = λ k steps more h. absurd (omega (arith, stands-before h, c.if-strip-at.true)) }
 
 pub returns-in_default : goal.returns-in_default
 returns-in_default c = let x = c.args in
-    (tt, λ k steps more h. far-number (use-number x.strip.now x.at k steps more h) (number-nothing c.in_default.is c.number.ensures))
+    record { inside = tt; asks = λ k steps more h. far-number (use-number x.strip.now x.at k steps more h) (number-nothing c.in_default.is c.number.ensures) }
 
 pub returns-in_default-past : goal.returns-in_default-past
 returns-in_default-past c = let x = c.args in
-    (tt, λ k steps more h. absurd (past-nothing c.in_default-past.is c.past.ensures (number k) (use-number x.strip.now x.at k steps more h) (omega arith)))
+    record { inside = tt; asks = λ k steps more h. absurd (past-nothing c.in_default-past.is c.past.ensures (number k) (use-number x.strip.now x.at k steps more h) (omega arith)) }
 
 pub returns : goal.returns
 returns c = let x = c.args in
     let e = past_next c.in-Next.is c.past.ensures in
-    (ends-inside e, λ k steps more h. (number-agrees (number_is c.in-Is.is c.number.ensures) (use-number x.strip.now x.at k steps more h), ends_is (use-number x.strip.now x.at k steps more h) e))
+    record { inside = ends-inside e; asks = λ k steps more h. (number-agrees (number_is c.in-Is.is c.number.ensures) (use-number x.strip.now x.at k steps more h), ends_is (use-number x.strip.now x.at k steps more h) e) }

@@ -10,16 +10,16 @@ use Rattle.uses.proofs.uses.at_and.Goals as goal
 
 pub returns-then-is_word : goal.returns-then-is_word
 returns-then-is_word c = let x = c.args in
-    (tt, λ p d s path k l h e. and_left x.clause.now x.strip.now x.at x.next p d path s k h e (told-yes c.if-is_word.true c.is_word.ensures))
+    record { small = tt; turned = λ p d s path k l h e. and_left x.clause.now x.strip.now x.at x.next p d path s k h e (told-yes c.if-is_word.true c.is_word.ensures) }
 
 pub returns-then-not-is_word : goal.returns-then-not-is_word
 returns-then-not-is_word c = let x = c.args in
-    (tt, λ p d s path k l h e. and-neither x.clause.now x.strip.now x.at x.next p d path s h (told-no c.if-is_word.false c.if-is_word.ensures) (told-no (not-true c.is_word-2.result c.if-not-is_word.true-raw) c.is_word-2.ensures))
+    record { small = tt; turned = λ p d s path k l h e. and-neither x.clause.now x.strip.now x.at x.next p d path s h (told-no c.if-is_word.false c.if-is_word.ensures) (told-no (not-true c.is_word-2.result c.if-not-is_word.true-raw) c.is_word-2.ensures) }
 
 pub returns-in-Nothing : goal.returns-in-Nothing
 returns-in-Nothing c = let x = c.args in
-    (tt, λ p d s path k l h e. absurd (and-found x.clause.now x.strip.now x.at x.next p d path k l (past-nothing c.in-Nothing.is c.past.ensures)))
+    record { small = tt; turned = λ p d s path k l h e. absurd (and-found x.clause.now x.strip.now x.at x.next p d path k l (past-nothing c.in-Nothing.is c.past.ensures)) }
 
 pub returns-in-Next : goal.returns-in-Next
 returns-in-Next c = let x = c.args in
-    (tt, λ p d s path k l h e. and_right x.clause.now x.strip.now x.at x.next p d path s c.in-Next.i k h e (told-yes (not-false c.is_word-2.result c.if-not-is_word.false-raw) c.is_word-2.ensures) (past_next c.in-Next.is c.past.ensures))
+    record { small = tt; turned = λ p d s path k l h e. and_right x.clause.now x.strip.now x.at x.next p d path s c.in-Next.i k h e (told-yes (not-false c.is_word-2.result c.if-not-is_word.false-raw) c.is_word-2.ensures) (past_next c.in-Next.is c.past.ensures) }

@@ -7,7 +7,7 @@ use Rattle.uses.proofs.WalkLaws.{strip-nests, enter-is, judges-is, bounded-is, m
 use Rattle.walk.proofs.down.+node.Goals as goal
 
 pub returns-then-nest-eq0 : goal.returns-then-nest-eq0
-returns-then-nest-eq0 t c = (tt, λ ds us P o h bs g ready. absurd (omega (arith, strip-nests P, ready.nests, c.if-nest-eq0.true)))
+returns-then-nest-eq0 t c = record { sure = tt; judged = λ ds us P o h bs g ready. absurd (omega (arith, strip-nests P, ready.nests, c.if-nest-eq0.true)) }
 
 pub node-two-requires : goal.node-two-requires
 node-two-requires t c = (omega (arith, c.if-nest-eq0.false, c.decreases), tt)
@@ -21,7 +21,7 @@ overflow_add-m t c =
 pub returns-in-Misfit : goal.returns-in-Misfit
 returns-in-Misfit t c =
     let x = c.args in
-    (tt, λ ds us P o h bs g ready. misfit-node ready (enter-is c.in-Misfit.is (c.enter-e.ensures ds us P o h bs g ready)))
+    record { sure = tt; judged = λ ds us P o h bs g ready. misfit-node ready (enter-is c.in-Misfit.is (c.enter-e.ensures ds us P o h bs g ready)) }
 
 pub returns-in-Leaf : goal.returns-in-Leaf
 returns-in-Leaf t c = (
