@@ -1,4 +1,5 @@
 -- The cycle of calls of src/predicate.rt meets its contracts. Assumes nothing.
+use borrow.Enum.Refused.{opened}
 use native.Mathlib.Omega.{arith}
 use borrow.Author.Rules.{rules}
 use Prim.Native.Nat.{ℕ, ◌+◌, ◌-◌, ◌*◌, ◌<◌}
@@ -41,4 +42,4 @@ has_head-returns-in-All t c = let x = c.args in
 pub has_head-returns-in_default : goal.has_head-returns-in_default
 unfolding rows rank
 has_head-returns-in_default t c = let k = c.word_there.result in
-    by-other c.args.nest k c.word_there.ensures (no_row K.Clause k c.in_default.in_default-own.keys5 refl)
+    by-other c.args.nest k c.word_there.ensures (no_row K.Clause k (opened c.in_default.in_default-own.keys5) refl)
