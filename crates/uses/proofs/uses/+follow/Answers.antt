@@ -16,21 +16,21 @@ returns-then-nest-eq0 t c = record { kept = refl; followed = λ f ds us o base c
 
 pub returns-then-clause-i : goal.returns-then-clause-i
 returns-then-clause-i t c = let x = c.args in
-    let m = c.if-clause-i.true in (
-      refl,
-      λ f ds us o base count d bs path e h.
+    let m = c.if-clause-i.true in record {
+      kept = refl;
+      followed = λ f ds us o base count d bs path e h.
           let n = turns_as x.clause.now x.strip.now d path c.next_turn.result _ c.in-Into.is (c.next_turn.ensures.turned d path h.stands (omega (arith, h.shallow)) h.steps) in
-          absurd (omega (arith, stands-before n.stands)),
-    )
+          absurd (omega (arith, stands-before n.stands))
+    }
 
 pub returns-then-clause-lt6 : goal.returns-then-clause-lt6
 returns-then-clause-lt6 t c = let x = c.args in
-    let m = c.if-clause-lt6.true in (
-      refl,
-      λ f ds us o base count d bs path e h.
+    let m = c.if-clause-lt6.true in record {
+      kept = refl;
+      followed = λ f ds us o base count d bs path e h.
           let n = turns_as x.clause.now x.strip.now d path c.next_turn.result _ c.in-Bound.is (c.next_turn.ensures.turned d path h.stands (omega (arith, h.shallow)) h.steps) in
-          absurd (omega (arith, stands-before n.stands)),
-    )
+          absurd (omega (arith, stands-before n.stands))
+    }
 
 pub bind-requires : goal.bind-requires
 bind-requires t c = let l = small-as c.next_turn.result _ c.in-Bound.is c.next_turn.ensures.small in
@@ -38,12 +38,12 @@ bind-requires t c = let l = small-as c.next_turn.result _ c.in-Bound.is c.next_t
 
 pub returns-then-not-bind : goal.returns-then-not-bind
 returns-then-not-bind t c = let x = c.args in
-    let b = binds-as x.room.now _ x.top c.in-Bound.n x.parameters c.bind.result false (not-true c.bind.result c.if-not-bind.true-raw) c.bind.ensures in (
-      ap (take x.top) b.0,
-      λ f ds us o base count d bs path e h.
+    let b = binds-as x.room.now _ x.top c.in-Bound.n x.parameters c.bind.result false (not-true c.bind.result c.if-not-bind.true-raw) c.bind.ensures in record {
+      kept = ap (take x.top) b.0;
+      followed = λ f ds us o base count d bs path e h.
           let n = turns_as x.clause.now x.strip.now d path c.next_turn.result _ c.in-Bound.is (c.next_turn.ensures.turned d path h.stands (omega (arith, h.shallow)) h.steps) in
-          bound-shut h o e n b,
-    )
+          bound-shut h o e n b
+    }
 
 pub overflow_add-top : goal.overflow_add-top
 overflow_add-top t c = let x = c.args in
@@ -60,19 +60,19 @@ returns-in-Ended t c = let x = c.args in
     record { kept = refl; followed = λ f ds us o base count d bs path e h. follow-ended h o (turns_as x.clause.now x.strip.now d path c.next_turn.result _ c.in-Ended.is (c.next_turn.ensures.turned d path h.stands (omega (arith, h.shallow)) h.steps)) }
 
 pub returns-else-clause-i : goal.returns-else-clause-i
-returns-else-clause-i t c = let x = c.args in (
-  c.follow.ensures.kept,
-  λ f ds us o base count d bs path e h.
+returns-else-clause-i t c = let x = c.args in record {
+  kept = c.follow.ensures.kept;
+  followed = λ f ds us o base count d bs path e h.
       let n = turns_as x.clause.now x.strip.now d path c.next_turn.result _ c.in-Into.is (c.next_turn.ensures.turned d path h.stands (omega (arith, h.shallow)) h.steps) in
-      into-followed h o e c.if-nest-eq0.false n _ (rest-whole x.clause.now c.in-Into.i) _ c.follow.result c.follow.ensures.followed,
-)
+      into-followed h o e c.if-nest-eq0.false n _ (rest-whole x.clause.now c.in-Into.i) _ c.follow.result c.follow.ensures.followed
+    }
 
 pub returns-else-not-bind : goal.returns-else-not-bind
 returns-else-not-bind t c = let x = c.args in
     let b = binds-as x.room.now _ x.top c.in-Bound.n x.parameters c.bind.result true (not-false c.bind.result c.if-not-bind.false-raw) c.bind.ensures in
-    let l = small-as c.next_turn.result _ c.in-Bound.is c.next_turn.ensures.small in (
-      bound-kept x.room.now _ _ x.top c.in-Bound.n x.parameters b c.follow-in-Bound.ensures.kept,
-      λ f ds us o base count d bs path e h.
+    let l = small-as c.next_turn.result _ c.in-Bound.is c.next_turn.ensures.small in record {
+      kept = bound-kept x.room.now _ _ x.top c.in-Bound.n x.parameters b c.follow-in-Bound.ensures.kept;
+      followed = λ f ds us o base count d bs path e h.
           let n = turns_as x.clause.now x.strip.now d path c.next_turn.result _ c.in-Bound.is (c.next_turn.ensures.turned d path h.stands (omega (arith, h.shallow)) h.steps) in
-          bound-followed h o e n c.if-nest-eq0.false l b _ (rest-whole x.clause.now 6) _ c.follow-in-Bound.result c.follow-in-Bound.ensures.followed,
-    )
+          bound-followed h o e n c.if-nest-eq0.false l b _ (rest-whole x.clause.now 6) _ c.follow-in-Bound.result c.follow-in-Bound.ensures.followed
+    }

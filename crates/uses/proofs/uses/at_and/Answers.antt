@@ -14,7 +14,7 @@ returns-then-is_word c = let x = c.args in
 
 pub returns-then-not-is_word : goal.returns-then-not-is_word
 returns-then-not-is_word c = let x = c.args in
-    record { small = tt; turned = λ p d s path k l h e. and-neither x.clause.now x.strip.now x.at x.next p d path s h (told-no c.if-is_word.false c.if-is_word.ensures) (told-no (not-true c.is_word-2.result c.if-not-is_word.true-raw) c.is_word-2.ensures) }
+    record { small = tt; turned = λ p d s path k l h e. and-neither x.clause.now x.strip.now x.at x.next p d path s h (told-no c.if-is_word.false c.is_word.ensures) (told-no (not-true c.is_word-2.result c.if-not-is_word.true-raw) c.is_word-2.ensures) }
 
 pub returns-in-Nothing : goal.returns-in-Nothing
 returns-in-Nothing c = let x = c.args in

@@ -14,5 +14,5 @@ pub returns-then-not-may_use : goal.returns-then-not-may_use
 returns-then-not-may_use c = (refl, λ l. sym c.may_use.ensures ∙ not-true c.may_use.result c.if-not-may_use.true-raw)
 
 pub returns : goal.returns
-returns c = let m = c.slice_known-1.false in
+returns c = let m = c.if-room-top.false in
     (m, (sym c.may_use.ensures ∙ not-false c.may_use.result c.if-not-may_use.false-raw, c.push.ensures))

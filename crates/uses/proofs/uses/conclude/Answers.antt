@@ -8,12 +8,6 @@ use native.Mathlib.Omega.{arith}
 use borrow.Author.Rules.{rules}
 use Rattle.uses.proofs.uses.conclude.Goals as goal
 
--- LEFT
--- src/uses.rt:287:27
-add-t20 : tie.Need-overflow-add-t20
-add-t20 c = let e = ends-inside (past_next c.before.before.before.before.before.before.before.before.before.next.given.1 c.before.before.before.before.before.before.before.before.before.before.before.past.ensures) in
-    search rules
-
 pub returns-in_default : goal.returns-in_default
 returns-in_default c = let x = c.args in
     let f = files_of x.rules.now x.goal.now x.terms.now in

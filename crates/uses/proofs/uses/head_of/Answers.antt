@@ -15,7 +15,7 @@ returns-then-is_word c = let x = c.args in
 
 pub returns-then-not-is_word : goal.returns-then-not-is_word
 returns-then-not-is_word c = let x = c.args in
-    λ e k l. head-neither (file_of x.rules.now x.goal.now x.terms.now x.x.source) _ x.x c.part-s.ensures e (told-no c.if-is_word.false c.if-is_word.ensures) (told-no (not-true c.is_word-2.result c.if-not-is_word.true-raw) c.is_word-2.ensures) k
+    λ e k l. head-neither (file_of x.rules.now x.goal.now x.terms.now x.x.source) _ x.x c.part-s.ensures e (told-no c.if-is_word.false c.is_word.ensures) (told-no (not-true c.is_word-2.result c.if-not-is_word.true-raw) c.is_word-2.ensures) k
 
 pub overflow_add-x : goal.overflow_add-x
 overflow_add-x c = let x = c.args in

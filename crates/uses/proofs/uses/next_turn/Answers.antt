@@ -24,4 +24,4 @@ returns-then-is_word-2 c = let x = c.args in
 
 pub returns : goal.returns
 returns c = let x = c.args in
-    record { small = tt; turned = λ d path k l h. turn-neither x.clause.now x.strip.now x.at d path (closes-no c.closes.ensures c.if-closes.false) (told-no c.if-is_word.false c.if-is_word.ensures) (told-no c.if-is_word-2.false c.is_word-2.ensures) k h }
+    record { small = tt; turned = λ d path k l h. turn-neither x.clause.now x.strip.now x.at d path (closes-no c.closes.ensures c.if-closes.false) (told-no c.if-is_word.false c.is_word.ensures) (told-no c.if-is_word-2.false c.is_word-2.ensures) k h }
