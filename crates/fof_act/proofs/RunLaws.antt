@@ -219,7 +219,7 @@ pub record Runs (t st st' ns ns' d d' : List ℕ) (n m : Now) (steps left : ℕ)
   pub goes : length t ≤ 16384 → (o : Option Ran) → Going t st ns d d n.pen n steps o → Going t st' ns' d d' n.pen m left o
 
 pub runs-first : (t st ns d : List ℕ) (n : Now) (steps : ℕ) → Runs t st st ns ns d d n n steps steps
-runs-first t st ns d n steps = record { kept = record { stack = refl; names = refl; bytes = refl }; goes = λ _ o g. g }
+runs-first t st ns d n _ = record { kept = record { stack = refl; names = refl; bytes = refl }; goes = λ _ o g. g }
 
 kept_then : {st st' st'' ns ns' ns'' d d' d'' : List ℕ} → Kept st st' ns ns' d d' → Kept st' st'' ns' ns'' d' d'' → Kept st st'' ns ns'' d d''
 kept_then a b = record { stack = b.stack ∙ a.stack; names = b.names ∙ a.names; bytes = b.bytes ∙ a.bytes }

@@ -1,5 +1,6 @@
 // What a reader of TPTP lines that works from left to right is made of (document 02, One): the sign ahead, the stack of what is due, the variables that are bound, and marks in a buffer.
 #![tactic(auto)]
+
 mod ahead;
 mod dues;
 mod expected;

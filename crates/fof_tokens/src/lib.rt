@@ -2,6 +2,7 @@
 // `bytes` tells the classes of bytes, `run` passes bytes of one class, `first` tells by its first byte what a piece may be; `gaps`, `words`, `numbers` and `signs` find its end,
 // `pieces` the longest piece at an offset, and `next` the next token.
 #![tactic(auto)]
+
 mod bytes;
 mod first;
 mod found;

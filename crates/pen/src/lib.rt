@@ -1,6 +1,7 @@
 // Bytes laid into a buffer, as far as it has room: a byte, a word, a number (document 01, "What comes back").
 // A place may lie beyond the buffer's end, so that the same walk measures what it writes.
 #![tactic(auto)]
+
 ghost use Rattle.std.specs.Prelude.{◌≡◌, ◌+◌, ◌%◌, [], ◌∷◌, length};
 ghost use Rattle.sexp.specs.Decimal.{decimal};
 ghost use Rattle.pen.specs.Laid.{Puts};

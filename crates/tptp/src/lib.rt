@@ -1,6 +1,7 @@
 // A rule book in TPTP (document 02, One): its axioms become a file of rules, its conjecture a goal file, both canonical; or one refusal of file 1.
 // The lines are read twice: first to learn whether and how much there is to write, then to write. So on a refusal nothing was written.
 #![tactic(auto)]
+
 ghost use Rattle.std.specs.Prelude.{◌≡◌, min, leb};
 ghost use Rattle.packet.specs.File.{most_bytes};
 ghost use Rattle.tptp.specs.declared.Converted.TheVariants as C;
