@@ -1,4 +1,5 @@
 -- `clause_key` of src/rule.rt meets its contract: the nesting that is left falls. Assumes nothing.
+use borrow.Enum.Refused.{opened}
 use mathlib.Core.Path.{refl}
 use Rattle.packet.specs.declared.Kind.TheVariants as K
 use Rattle.packet.specs.Table.{rows, rank}
@@ -31,4 +32,4 @@ pub returns-in_default : goal.returns-in_default
 unfolding rows rank
 returns-in_default t c = let x = c.args in
     let k = c.word_at.result in
-    clause-other x.s.now x.at x.nest c.from-t.ensures c.word_at.ensures (no_row K.Clause k c.in_default.in_default-own.keys5 refl)
+    clause-other x.s.now x.at x.nest c.from-t.ensures c.word_at.ensures (no_row K.Clause k (opened c.in_default.in_default-own.keys5) refl)

@@ -9,12 +9,12 @@ returns-then-is_word c = let x = c.args in
 
 pub returns-then-is_word-2 : goal.returns-then-is_word-2
 returns-then-is_word-2 c = let x = c.args in
-    begins-parameter x.t.now x.room.now x.x {r = c.if-is_word.result} c.if-is_word.ensures c.if-is_word.false {q = c.is_word-2.result} c.is_word-2.ensures c.if-is_word-2.true c.parameter_key.ensures
+    begins-parameter x.t.now x.room.now x.x {r = c.is_word.result} c.is_word.ensures c.if-is_word.false {q = c.is_word-2.result} c.is_word-2.ensures c.if-is_word-2.true c.parameter_key.ensures
 
 pub returns-in-Nothing : goal.returns-in-Nothing
 returns-in-Nothing c = let x = c.args in
-    begins-lost x.t.now x.room.now x.x {r = c.if-is_word.result} c.if-is_word.ensures c.if-is_word.false {q = c.is_word-2.result} c.is_word-2.ensures c.if-is_word-2.false c.in-Nothing.is c.past.ensures
+    begins-lost x.t.now x.room.now x.x {r = c.is_word.result} c.is_word.ensures c.if-is_word.false {q = c.is_word-2.result} c.is_word-2.ensures c.if-is_word-2.false c.in-Nothing.is c.past.ensures
 
 pub returns-in-Next : goal.returns-in-Next
 returns-in-Next c = let x = c.args in
-    begins-rest x.t.now x.room.now x.x {r = c.if-is_word.result} c.if-is_word.ensures c.if-is_word.false {q = c.is_word-2.result} c.is_word-2.ensures c.if-is_word-2.false c.in-Next.is c.past.ensures c.text_key.ensures
+    begins-rest x.t.now x.room.now x.x {r = c.is_word.result} c.is_word.ensures c.if-is_word.false {q = c.is_word-2.result} c.is_word-2.ensures c.if-is_word-2.false c.in-Next.is c.past.ensures c.text_key.ensures
