@@ -1,11 +1,13 @@
 // Judges every case of the file `cases` in the present folder (second/README.md: a limit of nesting and a file, each a string), then the file `file.sx`, and prints
 // one line for each. A file that is not there is passed over. The stored cases and the lines that are expected come from the second program alone.
 #![tactic(auto)]
-ghost use Rattle.std.specs.Prelude.{◌<◌, ◌≤◌, length};
-ghost use Rattle.io.specs.Counts.{IsPrefixLen};
 
-use libc::STDOUT_FILENO;
+ghost use Rattle.std.specs.Prelude.{◌≡◌, ◌<◌, ◌≤◌, length, take};
+
 use sexp::{Carrier, Octets};
+use std::fs;
+use std::io::Read;
+use std::rt::Files;
 
 // A part of the case file.
 #[derive(Clone, Copy)]
@@ -15,12 +17,17 @@ struct Part {
 }
 
 // Reads a file whole, as far as the buffer goes.
-fn load(fd: i32, buf: &mut [u8]) -> usize
-    ensures { IsPrefixLen result buf.new }
+fn load<R: Read + Drop>(mut file: R, buf: &mut [u8]) -> usize
+    ensures { (result ≤ length buf.new) × (result ≡ length (take result buf.new)) }
 {
-    let n = io::read_full(fd, buf);
-    libc::close(fd);
-    n
+    let mut done = 0;
+    while done < buf.len() {
+        match file.read(&mut buf[done..]) {
+            Ok(n) if n > 0 => done += n,
+            _ => break,
+        }
+    }
+    done
 }
 
 // The string at an offset; where none stands, nothing up to the end.
@@ -54,33 +61,38 @@ fn limit(s: &[u8]) -> usize {
     }
 }
 
-fn line(word: &[u8]) {
-    io::write_all(STDOUT_FILENO, word);
-    io::write_all(STDOUT_FILENO, b"\n");
+// What cannot be printed is left out.
+fn say(out: &impl Print, word: &[u8]) {
+    let _ = out.write_all(word);
 }
 
-fn place(word: &[u8], at: usize) {
-    io::write_all(STDOUT_FILENO, word);
-    io::print_decimal(STDOUT_FILENO, at as u64);
-    io::write_all(STDOUT_FILENO, b"\n");
+fn line(out: &impl Print, word: &[u8]) {
+    say(out, word);
+    say(out, b"\n");
 }
 
-fn show(v: Carrier) {
+fn place(out: &impl Print, word: &[u8], at: usize) {
+    say(out, word);
+    let _ = out.print(at);
+    say(out, b"\n");
+}
+
+fn show(out: &impl Print, v: Carrier) {
     match v {
         Carrier::Sound => {
-            line(b"sound");
+            line(out, b"sound");
         }
         Carrier::Fault(at) => {
-            place(b"fault ", at);
+            place(out, b"fault ", at);
         }
         Carrier::Deep(at) => {
-            place(b"deep ", at);
+            place(out, b"deep ", at);
         }
     }
 }
 
 // Judges the case at an offset, and answers where the next one starts.
-fn case(s: &[u8], at: usize) -> usize
+fn case(out: &impl Print, s: &[u8], at: usize) -> usize
     requires { at < length s.now }
     ensures { at < result }
 {
@@ -93,38 +105,36 @@ fn case(s: &[u8], at: usize) -> usize
     let file = string(s, b);
     let c = file.from;
     let d = file.to;
-    show(sexp::canonical(&s[c..d], limit(&s[a..b])));
+    show(out, sexp::canonical(&s[c..d], limit(&s[a..b])));
     d
 }
 
-fn cases(s: &[u8]) {
+fn cases(out: &impl Print, s: &[u8]) {
     let mut at = 0;
     while at < s.len() {
-        at = case(s, at);
+        at = case(out, s, at);
     }
 }
 
-fn the_cases() {
-    let fd = os::open_read(b"cases");
-    if fd < 0 {
+fn the_cases(rt: &(impl Files + Print)) {
+    let Ok(file) = fs::open(rt, "cases") else {
         return;
-    }
+    };
     let mut room = [0u8; 524288];
-    let n = load(fd, &mut room);
-    cases(&room[..n]);
+    let n = load(file, &mut room);
+    cases(rt, &room[..n]);
 }
 
-fn the_file() {
-    let fd = os::open_read(b"file.sx");
-    if fd < 0 {
+fn the_file(rt: &(impl Files + Print)) {
+    let Ok(file) = fs::open(rt, "file.sx") else {
         return;
-    }
+    };
     let mut room = [0u8; 524288];
-    let n = load(fd, &mut room);
-    show(sexp::canonical(&room[..n], 64));
+    let n = load(file, &mut room);
+    show(rt, sexp::canonical(&room[..n], 64));
 }
 
-fn main() {
-    the_cases();
-    the_file();
+fn main(rt: HostRuntime) {
+    the_cases(&rt);
+    the_file(&rt);
 }

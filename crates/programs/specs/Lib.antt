@@ -1,2 +1,3 @@
+pub mod Counts
 pub mod Said
 pub mod StringAt

@@ -1,69 +1,79 @@
-// What the programs share: a file is read, or made and named, a word of digits is a number, a line is printed.
+// What the programs share: a file is read, or made and named, an argument is read, a word of digits is a number, a line is printed.
 #![tactic(auto)]
+
+mod arguments;
 mod cases;
 mod saved;
 mod word;
 
-ghost use Rattle.io.specs.Counts.{IsPrefixLen};
+ghost use Rattle.std.specs.Prelude.{IfOk};
+ghost use Rattle.programs.specs.Counts.{IsPrefixLen};
 
+pub use arguments::{argument, argument_count};
 pub use cases::{Part, string};
-use libc::STDOUT_FILENO;
 use packet::{File, Reason};
-pub use saved::{give_name, put_aside};
+pub use saved::{give_name, put_aside, remove};
+use std::io::{ErrorKind, Read};
+use std::rt::Files;
+use std::{fs, io};
 pub use word::number;
 
-// Whether a file is there.
-#[derive(Clone, Copy)]
-enum Opened {
-    Missing,
-    There(i32),
+// A name as text; the library opens no other.
+fn as_text(name: &[u8]) -> io::Result<&str> {
+    match std::str::from_utf8(name) {
+        Ok(text) => Ok(text),
+        Err(_) => Err(io::Error::new(ErrorKind::InvalidInput, "the name is not UTF-8")),
+    }
 }
 
-fn open_file(path: &[u8]) -> Opened {
-    let fd = os::open_read(path);
-    if fd < 0 {
-        return Opened::Missing;
+// Reads until the buffer is full, the input ends or a read fails. How many bytes were put at its start.
+fn read_full<R: Read>(input: &mut R, buf: &mut [u8]) -> usize
+    ensures { IsPrefixLen result buf.new }
+{
+    let mut done = 0;
+    while done < buf.len() {
+        match input.read(&mut buf[done..]) {
+            Ok(n) if n > 0 => done += n,
+            _ => break,
+        }
     }
-    Opened::There(fd)
+    done
 }
 
 // Reads a file, as far as the buffer goes: one byte more than a file may have tells that it is too long. A missing file counts as empty; one that cannot be read
-// counts as far as it was read.
-pub fn load(path: &[u8], buf: &mut [u8]) -> usize
-    ensures { IsPrefixLen result buf.new }
+// counts as far as it was read. The one error is that of a name that is not UTF-8.
+pub fn load(files: &impl Files, path: &[u8], buf: &mut [u8]) -> io::Result<usize>
+    ensures { IfOk result (λ n. IsPrefixLen n buf.new) }
 {
-    match open_file(path) {
-        Opened::Missing => 0,
-        Opened::There(fd) => {
-            let n = io::read_full(fd, buf);
-            libc::close(fd);
-            n
-        }
+    match fs::open(files, as_text(path)?) {
+        Err(_) => Ok(0),
+        Ok(mut file) => Ok(read_full(&mut file, buf)),
     }
 }
 
-// Prints a word.
-pub fn say(word: &[u8]) {
-    io::write_all(STDOUT_FILENO, word);
+// Prints a word. What cannot be printed is left out.
+pub fn say(out: &impl Print, word: &[u8]) {
+    let _ = out.write_all(word);
 }
 
 // Prints a space and a number.
-pub fn say_number(n: u64) {
-    io::write_all(STDOUT_FILENO, b" ");
-    io::print_decimal(STDOUT_FILENO, n);
+pub fn say_number(out: &impl Print, n: u64) {
+    say(out, b" ");
+    let _ = out.print(n);
 }
 
 // Prints a refusal by its numbers, without the end of its line.
-pub fn say_numbers(reason: u64, file: u64, place: u64) {
-    say(b"refused");
-    say_number(reason);
-    say_number(file);
-    say_number(place);
+pub fn say_numbers(out: &impl Print, reason: u64, file: u64, place: u64) {
+    say(out, b"refused");
+    say_number(out, reason);
+    say_number(out, file);
+    say_number(out, place);
 }
 
 // Prints a refusal in the paper's numbers, without the end of its line.
-pub fn say_refused(reason: Reason, file: File, place: usize) {
+pub fn say_refused(out: &impl Print, reason: Reason, file: File, place: usize) {
     say_numbers(
+        out,
         packet::reason_number(reason) as u64,
         packet::file_number(file) as u64,
         place as u64,
