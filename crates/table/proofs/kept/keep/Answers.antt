@@ -21,7 +21,7 @@ returns-then-not-fits c = record { only = only_none c.args.room.now; kept = Keep
 pub returns-then-is_this : goal.returns-then-is_this
 returns-then-is_this c = let x = c.args in
     let b = inside-bounds c.inside.result (length x.room.now) x.at c.inside.ensures (not-false _ c.if-not-inside.false-raw) in
-    let k = Keeps.again (c.is_this.ensures c.if-is_this.true) (c.fits-arg-1.ensures (not-false _ c.fits.false)) (c.note.ensures b.1) in
+    let k = Keeps.again (c.is_this.ensures c.if-is_this.true) (c.fits.ensures (not-false _ c.if-not-fits.false-raw)) (c.note.ensures b.1) in
     record { only = keeps-only b.0 k; kept = k }
 
 pub returns : goal.returns

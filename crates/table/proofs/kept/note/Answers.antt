@@ -9,9 +9,9 @@ use borrow.Author.Rules.{rules}
 use Rattle.table.proofs.kept.note.Goals as goal
 
 pub returns-then-found : goal.returns-then-found
-returns-then-found c = let x = c.before.before.args in let room = x.room.now in let r1 = c.put-arg-1.new.0 in let r2 = c.put-arg-then-found-1.new.0 in
-    λ h. Notes.proved c.if1.true
-    (proved-is room r1 r2 x.at x.height x.choice x.top c.slice_known-then-found-2-1.result c.numbers_word-to.result h (c.put-arg-1.ensures ∙ ap (set room (x.at + 6)) c.if-found.ensures) (c.put-arg-then-found-1.ensures ∙ ap (set r1 (x.at + 7)) c.slice_known-then-found-1.ensures) c.slice_known-then-found-2-1.ensures c.numbers_word-to.ensures c.carry.ensures)
+returns-then-found c = let x = c.args in let room = x.room.now in let r1 = c.put.new.room in let r2 = c.put-then-found.new.room in
+    λ h. Notes.proved c.if-found.true
+    (proved-is room r1 r2 x.at x.height x.choice x.top c.numbers-n.result c.numbers_word-to.result h (c.put.ensures ∙ ap (set room (x.at + 6)) c.hold.ensures) (c.put-then-found.ensures ∙ ap (set r1 (x.at + 7)) c.hold-then-found.ensures) c.numbers-n.ensures c.numbers_word-to.ensures c.carry.ensures)
 
 pub returns : goal.returns
 returns c = let x = c.args in

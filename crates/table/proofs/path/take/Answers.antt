@@ -5,4 +5,4 @@ use borrow.Author.Rules.{rules}
 use Rattle.table.proofs.path.take.Goals as goal
 
 pub returns : goal.returns
-returns c = λ h. carried-as (c.numbers_word-from.ensures h) c.slice_known-1.ensures c.carry.ensures
+returns c = λ h. carried-as (c.numbers_word-from.ensures h) c.numbers-n.ensures c.carry.ensures

@@ -5,11 +5,6 @@ use native.Mathlib.Omega.{arith}
 use borrow.Author.Rules.{rules}
 use Rattle.table.proofs.slot.slot_for.Goals as goal
 
--- LEFT
--- src/slot.rt:21:18
-rem-result : tie.Need-nonzero-rem-result
-rem-result c = search rules
-
 pub returns-then-words-lt5392 : goal.returns-then-words-lt5392
 returns-then-words-lt5392 c = slot-none (length c.args.room.now) c.args.key c.if-words-lt5392.true
 
