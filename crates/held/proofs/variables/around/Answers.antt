@@ -10,8 +10,8 @@ returns-then-is_word c = let x = c.args in
 
 pub returns-then-is_word-2 : goal.returns-then-is_word-2
 returns-then-is_word-2 c = let x = c.args in
-    around-some x.s.now x.at (omega arith) x.depth c.plus.ensures c.if-is_word.ensures c.if-is_word.false c.plus-2.ensures c.is_word-2.ensures c.if-is_word-2.true c.plus-then-is_word-2.ensures
+    around-some x.s.now x.at (omega arith) x.depth c.plus.ensures c.is_word.ensures c.if-is_word.false c.plus-2.ensures c.is_word-2.ensures c.if-is_word-2.true c.plus-then-is_word-2.ensures
 
 pub returns : goal.returns
 returns c = let x = c.args in
-    around-none x.s.now x.at (omega arith) x.depth c.plus.ensures c.if-is_word.ensures c.if-is_word.false c.plus-2.ensures c.is_word-2.ensures c.if-is_word-2.false
+    around-none x.s.now x.at (omega arith) x.depth c.plus.ensures c.is_word.ensures c.if-is_word.false c.plus-2.ensures c.is_word-2.ensures c.if-is_word-2.false
