@@ -5,14 +5,14 @@ use Rattle.drawing.proofs.FirstLaws as laws
 use Rattle.drawing.proofs.first.first_clause.Goals as goal
 
 pub returns-then-k-eq0 : goal.returns-then-k-eq0
-returns-then-k-eq0 c = let k = c.slice_known-1.ensures in
+returns-then-k-eq0 c = let k = c.both_keys-of.ensures in
     let m = c.find_clause.ensures in
     (laws.clause-found k.0 k.1 m.0, laws.clause-located k.0 k.1 m.1)
 
 pub returns-then-not-has_numbers : goal.returns-then-not-has_numbers
-returns-then-not-has_numbers c = let k = c.shared_slice_known-3-1.ensures in
+returns-then-not-has_numbers c = let k = c.both_keys-of.ensures in
     let m = c.find_clause-then-not-has_numbers.ensures in
     (laws.clause-found k.0 k.1 m.0, laws.clause-located k.0 k.1 m.1)
 
 pub returns : goal.returns
-returns c = (laws.clause-chosen c.before.before.before.args.left c.slot_for-at.ensures c.both_keys-of.ensures.1 c.chosen-k.false c.plus.ensures c.has_numbers.ensures (not-false _ c.if-not-has_numbers.false-raw) c.take.ensures, laws.chosen-located c.before.before.before.args.left c.slot_for-at.ensures c.both_keys-of.ensures.1 c.chosen-k.false c.plus.ensures c.has_numbers.ensures (not-false _ c.if-not-has_numbers.false-raw) c.take.ensures)
+returns c = (laws.clause-chosen c.args.left c.slot_for-at.ensures c.both_keys-of.ensures.1 c.chosen-k.false c.plus.ensures c.has_numbers.ensures (not-false _ c.if-not-has_numbers.false-raw) c.take.ensures, laws.chosen-located c.args.left c.slot_for-at.ensures c.both_keys-of.ensures.1 c.chosen-k.false c.plus.ensures c.has_numbers.ensures (not-false _ c.if-not-has_numbers.false-raw) c.take.ensures)

@@ -4,7 +4,7 @@ use Rattle.drawing.proofs.FirstLaws as laws
 use Rattle.drawing.proofs.first.number_through.Goals as goal
 
 pub returns-then-located : goal.returns-then-located
-returns-then-located c = laws.number-left c.before.args.nest c.plus.result c.slice_known-1.true c.plus.ensures c.variable.ensures c.number.ensures
+returns-then-located c = laws.number-left c.args.nest c.plus.result c.if-located.true c.plus.ensures c.variable.ensures c.number.ensures
 
 pub returns : goal.returns
 returns c = laws.number-asked c.args.nest c.if-located.false c.first_through.ensures

@@ -29,4 +29,4 @@ returns-in-Nothing-past c = λ nest ds us P o h bs g q x. absurd (some-never q x
 
 pub returns-in-Next : goal.returns-in-Next
 unfolding rank
-returns-in-Next c = λ nest ds us P o h bs g q x. says-as (c.push.ensures ∙ ap (λ (b : Binding). set c.before.args.room.now c.before.args.w.top (held (binding_word b))) c.candidate.ensures) (one_alike refl c.bound.ensures) (some_same q x c.word_there.ensures (sym c.rank.ensures ∙ c.if-rank-ne7.false) (numeral-from c.plus-from.ensures (number_is c.in-Is.is c.number.ensures)) (sym c.may_use.ensures ∙ not-false _ c.if-not-may_use.false-raw) (ends-from c.plus-from.ensures (past_next c.in-Next.is c.past.ensures)))
+returns-in-Next c = λ nest ds us P o h bs g q x. says-as (c.push.ensures ∙ ap (λ (b : Binding). set c.args.room.now c.args.w.top (held (binding_word b))) c.candidate.ensures) (one_alike refl c.bound.ensures) (some_same q x c.word_there.ensures (sym c.rank.ensures ∙ c.if-rank-ne7.false) (numeral-from c.plus-from.ensures (number_is c.in-Is.is c.number.ensures)) (sym c.may_use.ensures ∙ not-false _ c.if-not-may_use.false-raw) (ends-from c.plus-from.ensures (past_next c.in-Next.is c.past.ensures)))

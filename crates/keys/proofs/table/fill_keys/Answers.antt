@@ -4,7 +4,7 @@ use borrow.Author.Rules.{rules}
 use Rattle.keys.proofs.table.fill_keys.Goals as goal
 
 pub returns : goal.returns
-returns c = let x = c.before.before.args in
+returns c = let x = c.args in
     let kept = c.keep_candidates in
     let ruled = c.keep_rules in
     let chained = c.fill_chains in

@@ -9,17 +9,17 @@ use borrow.Author.Rules.{rules}
 use Rattle.keys.proofs.table.keep_candidates.Goals as goal
 
 pub loop-i-init : goal.loop-i-init
-loop-i-init c = let x = c.before.args in (omega arith, candidates-none x.room.now x.terms.now)
+loop-i-init c = let x = c.args in (omega arith, candidates-none x.room.now x.terms.now)
 
 pub loop-i-preserved : goal.loop-i-preserved
-loop-i-preserved c = let x = c.before.before.before.args in
+loop-i-preserved c = let x = c.args in
     let l = c.loop-i in
     let m = c.most-n.ensures in
     let i = c.loop-i-test.true in
     (omega (arith, i), candidates-more x.room.now x.terms.now c.word-at.result c.key_at-k.result l.invariant.1 (omega (arith, i, m)) c.word-at.ensures c.nowhere.ensures c.key_at-k.ensures c.put.ensures)
 
 pub returns : goal.returns
-returns c = let x = c.before.args in
+returns c = let x = c.args in
     let l = c.loop-i in
     let m = c.most-n.ensures in
     let w = c.word.ensures in

@@ -50,13 +50,13 @@ pub narrow_and-returns : goal.narrow_and-returns
 narrow_and-returns t c = (λ e. more-then (c.narrow_goal.ensures.0 e) (tried.more-from (c.again.ensures e) (c.narrow_goal-2.ensures.0 e)), tried.and_second c.args.left c.within-x.ensures c.narrow_goal.ensures.1 c.narrow_goal.auto.room c.past_part.ensures c.in-Next.is c.within-y.ensures c.narrow_goal-2.ensures.1)
 
 pub narrow_atom-returns-then-not-has_variable : goal.narrow_atom-returns-then-not-has_variable
-narrow_atom-returns-then-not-has_variable t c = let x = c.before.args in (more-none x.marks.now, tried.as-nothing W.Atom x.left)
+narrow_atom-returns-then-not-has_variable t c = let x = c.args in (more-none x.marks.now, tried.as-nothing W.Atom x.left)
 
 pub narrow_atom-loop-k-init : goal.narrow_atom-loop-k-init
-narrow_atom-loop-k-init t c = (refl, (more-none c.before.args.marks.now, tried.atom-start))
+narrow_atom-loop-k-init t c = (refl, (more-none c.args.marks.now, tried.atom-start))
 
 pub narrow_atom-narrow_clause-requires : goal.narrow_atom-narrow_clause-requires
-narrow_atom-narrow_clause-requires t c = (omega (arith, c.before.requires.0), tt)
+narrow_atom-narrow_clause-requires t c = (omega (arith, c.decreases), tt)
 
 pub narrow_atom-shape_of-room-then-not-narrow_clause : goal.narrow_atom-shape_of-room-then-not-narrow_clause
 narrow_atom-shape_of-room-then-not-narrow_clause t c = c.narrow_clause.auto.room ∙ c.loop-k.invariant.0
@@ -141,13 +141,13 @@ pub narrow_rule-shape_of-room-then-not-p : goal.narrow_rule-shape_of-room-then-n
 narrow_rule-shape_of-room-then-not-p t c = c.open_clause.auto.room
 
 pub narrow_rule-returns-then-not-p : goal.narrow_rule-returns-then-not-p
-narrow_rule-returns-then-not-p t c = let x = c.before.args in (more-none x.marks.now, λ own. rules.rule-stops x.k c.open_clause.ensures c.in-Clause.is)
+narrow_rule-returns-then-not-p t c = let x = c.args in (more-none x.marks.now, λ own. rules.rule-stops x.k c.open_clause.ensures c.in-Clause.is)
 
 pub narrow_rule-shape_of-room-then-not-p-2 : goal.narrow_rule-shape_of-room-then-not-p-2
 narrow_rule-shape_of-room-then-not-p-2 t c = c.open_clause.auto.room
 
 pub narrow_rule-returns-then-not-p-2 : goal.narrow_rule-returns-then-not-p-2
-narrow_rule-returns-then-not-p-2 t c = let x = c.before.args in (more-none x.marks.now, λ own. rules.rule-stops x.k c.open_clause.ensures c.in-Clause.is)
+narrow_rule-returns-then-not-p-2 t c = let x = c.args in (more-none x.marks.now, λ own. rules.rule-stops x.k c.open_clause.ensures c.in-Clause.is)
 
 pub narrow_rule-shape_of-room-in_default-same_as : goal.narrow_rule-shape_of-room-in_default-same_as
 narrow_rule-shape_of-room-in_default-same_as t c = c.open_clause.auto.room

@@ -27,16 +27,16 @@ use Rattle.provable.proofs.provable.+ask_body_both_decide_each_fill_find_clause_
 use Rattle.provable.proofs.provable.+ask_body_both_decide_each_fill_find_clause_fork_look_look_and_prove_all_prove_atom_prove_goal_prove_or_prove_some_start_through_through_with_try_all_try_one_under_use_clause.Goals as goal
 
 pub ask-returns-then-not-is_due : goal.ask-returns-then-not-is_due
-ask-returns-then-not-is_due t c = filling.one-waits c.before.args.height c.is_due.ensures (not-true c.is_due.result c.if-not-is_due.true-raw)
+ask-returns-then-not-is_due t c = filling.one-waits c.args.height c.is_due.ensures (not-true c.is_due.result c.if-not-is_due.true-raw)
 
 pub ask-prove_goal-requires : goal.ask-prove_goal-requires
-ask-prove_goal-requires t c = (omega (arith, c.before.requires.0), tt)
+ask-prove_goal-requires t c = (omega (arith, c.decreases), tt)
 
 pub ask-shape_of-room : goal.ask-shape_of-room
 ask-shape_of-room t c = c.prove_goal.auto.room
 
 pub ask-returns : goal.ask-returns
-ask-returns t c = filling.one-asked c.before.args.height c.is_due.ensures (not-false c.is_due.result c.if-not-is_due.false-raw) c.prove_goal.ensures
+ask-returns t c = filling.one-asked c.args.height c.is_due.ensures (not-false c.is_due.result c.if-not-is_due.false-raw) c.prove_goal.ensures
 
 pub body-returns-then-not-p : goal.body-returns-then-not-p
 body-returns-then-not-p t c = filling.body-none (not-true c.args.p.body c.if-not-p.true)
@@ -75,34 +75,34 @@ pub decide-shape_of-room-then-clauses-k : goal.decide-shape_of-room-then-clauses
 decide-shape_of-room-then-clauses-k t c = c.keep.auto.room ∙ c.find_clause-k.auto.room
 
 pub decide-returns-then-clauses-k : goal.decide-returns-then-clauses-k
-decide-returns-then-clauses-k t c = atoms.decide-none c.before.args.at c.find_clause-k.ensures.0 c.find_clause-k.auto.room c.clauses.ensures c.if-clauses-k.true c.plus.ensures c.keep.ensures.only c.keep.ensures.kept
+decide-returns-then-clauses-k t c = atoms.decide-none c.args.at c.find_clause-k.ensures.0 c.find_clause-k.auto.room c.clauses.ensures c.if-clauses-k.true c.plus.ensures c.keep.ensures.only c.keep.ensures.kept
 
 pub decide-shape_of-room-then-is_fact : goal.decide-shape_of-room-then-is_fact
 decide-shape_of-room-then-is_fact t c = c.find_clause-k.auto.room
 
 pub decide-returns-then-is_fact : goal.decide-returns-then-is_fact
-decide-returns-then-is_fact t c = atoms.decide-fact c.before.before.args.at c.find_clause-k.ensures.0 c.find_clause-k.auto.room c.clauses.ensures c.if-clauses-k.false
+decide-returns-then-is_fact t c = atoms.decide-fact c.args.at c.find_clause-k.ensures.0 c.find_clause-k.auto.room c.clauses.ensures c.if-clauses-k.false
 
 pub decide-shape_of-room : goal.decide-shape_of-room
 decide-shape_of-room t c = c.keep-2.auto.room ∙ c.find_clause-k.auto.room
 
 pub decide-returns : goal.decide-returns
-decide-returns t c = atoms.decide-some c.before.before.before.args.at c.find_clause-k.ensures.0 c.find_clause-k.ensures.1 c.find_clause-k.auto.room c.clauses.ensures c.if-clauses-k.false c.plus-2.ensures c.rule_number-number.ensures c.keep-2.ensures.only c.keep-2.ensures.kept
+decide-returns t c = atoms.decide-some c.args.at c.find_clause-k.ensures.0 c.find_clause-k.ensures.1 c.find_clause-k.auto.room c.clauses.ensures c.if-clauses-k.false c.plus-2.ensures c.rule_number-number.ensures c.keep-2.ensures.only c.keep-2.ensures.kept
 
 pub each-loop-i-init : goal.each-loop-i-init
-each-loop-i-init t c = let x = c.before.args in
+each-loop-i-init t c = let x = c.args in
     (omega arith, (refl, passing.all_start x.nest))
 
 pub each-shape_of-room-then-through_with : goal.each-shape_of-room-then-through_with
 each-shape_of-room-then-through_with t c = c.through_with.auto.room ∙ c.loop-i.invariant.1.0
 
 pub each-returns-then-through_with : goal.each-returns-then-through_with
-each-returns-then-through_with t c = let x = c.before.args in
+each-returns-then-through_with t c = let x = c.args in
     let l = c.loop-i in
     passing.all-hit x.nest l.i c.candidates-n.result c.loop-i-test.true c.candidates-n.ensures l.invariant.1.1 l.invariant.1.0 c.through_with.ensures c.if-through_with.true
 
 pub each-loop-i-preserved : goal.each-loop-i-preserved
-each-loop-i-preserved t c = let x = c.before.args in
+each-loop-i-preserved t c = let x = c.args in
     let l = c.loop-i in
     (omega arith, (c.through_with.auto.room ∙ l.invariant.1.0, passing.all-miss x.nest l.i c.candidates-n.result c.loop-i-test.true c.candidates-n.ensures l.invariant.1.1 l.invariant.1.0 c.through_with.ensures c.if-through_with.false))
 
@@ -110,12 +110,12 @@ pub each-shape_of-room : goal.each-shape_of-room
 each-shape_of-room t c = c.loop-i.invariant.1.0
 
 pub each-returns : goal.each-returns
-each-returns t c = let x = c.before.args in
+each-returns t c = let x = c.args in
     let l = c.loop-i in
     passing.all_done x.nest l.i c.candidates-n.result c.loop-i-test.false c.candidates-n.ensures l.invariant.1.1
 
 pub fill-returns-then-k-eq0 : goal.fill-returns-then-k-eq0
-fill-returns-then-k-eq0 t c = filling.fill_end c.before.args.k c.if-k-eq0.true c.fits.ensures
+fill-returns-then-k-eq0 t c = filling.fill_end c.args.k c.if-k-eq0.true c.fits.ensures
 
 pub fill-try_all-requires : goal.fill-try_all-requires
 fill-try_all-requires t c = (omega (arith, c.decreases, c.if-k-eq0.false), tt)
@@ -139,7 +139,7 @@ pub find_clause-loop-k-init : goal.find_clause-loop-k-init
 find_clause-loop-k-init t c = (c.next_clause-k.ensures.few, (refl, atoms.find-start c.next_clause-k.ensures))
 
 pub find_clause-use_clause-requires : goal.find_clause-use_clause-requires
-find_clause-use_clause-requires t c = (omega (arith, c.before.before.requires.0), tt)
+find_clause-use_clause-requires t c = (omega (arith, c.decreases), tt)
 
 pub find_clause-shape_of-room-then-use_clause : goal.find_clause-shape_of-room-then-use_clause
 find_clause-shape_of-room-then-use_clause t c = c.use_clause.auto.room ∙ c.loop-k.invariant.1.0
@@ -254,7 +254,7 @@ pub prove_atom-returns-then-n-next_clause : goal.prove_atom-returns-then-n-next_
 prove_atom-returns-then-n-next_clause t c = atoms.atom-barred c.clauses-n.result c.next_clause.result c.both_keys-of.ensures.0 c.both_keys-of.ensures.1 c.clauses-n.ensures c.next_clause.ensures c.if-n-next_clause.true
 
 pub prove_atom-decide-requires : goal.prove_atom-decide-requires
-prove_atom-decide-requires t c = (omega (arith, c.before.before.before.before.requires.0), tt)
+prove_atom-decide-requires t c = (omega (arith, c.decreases), tt)
 
 pub prove_atom-returns-in-No : goal.prove_atom-returns-in-No
 prove_atom-returns-in-No t c = atoms.atom-recalled c.slot_for-at.result c.recall.result false c.plus.ensures c.slot_for-at.ensures.1 c.recall.ensures (λ b x. subst (Says b) c.in-No.is x)
@@ -404,35 +404,35 @@ through-returns-in_default t c =
     (filling.no-path c.args.nest k c.word_there.ensures (filling.other_word k W.And others (tag-rank k) c.in_default.in_default-own.keys3 refl) (filling.other_word k W.All others (tag-rank k) c.in_default.in_default-own.keys3 refl) c.parts_of-p.ensures c.if-p.false, locating.located-no)
 
 pub through_with-returns-then-not-may_use : goal.through_with-returns-then-not-may_use
-through_with-returns-then-not-may_use t c = passing.with-barred c.before.args.i c.before.args.nest c.may_use.result c.may_use.ensures (not-true c.may_use.result c.if-not-may_use.true-raw)
+through_with-returns-then-not-may_use t c = passing.with-barred c.args.i c.args.nest c.may_use.result c.may_use.ensures (not-true c.may_use.result c.if-not-may_use.true-raw)
 
 pub through_with-returns : goal.through_with-returns
-through_with-returns t c = let x = c.before.args in
+through_with-returns t c = let x = c.args in
     passing.with-goes x.i x.nest c.may_use.result c.may_use.ensures (not-false c.may_use.result c.if-not-may_use.false-raw) c.deeper.ensures (passing.passing-from (c.push.ensures ∙ ap (λ (j : ℕ). set x.room.now j (held (binding_word (Candidate x.i)))) c.plus.ensures) c.through.ensures.0)
 
 pub try_all-loop-i-init : goal.try_all-loop-i-init
-try_all-loop-i-init t c = (omega arith, (refl, tried.from_start c.before.args.v c.candidates-n.result))
+try_all-loop-i-init t c = (omega arith, (refl, tried.from_start c.args.v c.candidates-n.result))
 
 pub try_all-loop-i-preserved-then-is_left_out : goal.try_all-loop-i-preserved-then-is_left_out
 try_all-loop-i-preserved-then-is_left_out t c = let l = c.loop-i in
     let s = c.is_left_out.ensures c.if-is_left_out.true in
-    (omega arith, (l.invariant.1.0, tried.from-skip c.before.args.v c.candidates-n.result l.i c.loop-i-test.true l.invariant.1.1 s.0 (sym (try-all-slice-aggregate-is-left-out t c)) s.1))
+    (omega arith, (l.invariant.1.0, tried.from-skip c.args.v c.candidates-n.result l.i c.loop-i-test.true l.invariant.1.1 s.0 (sym (try-all-slice-aggregate-is-left-out t c)) s.1))
 
 pub try_all-try_one-requires : goal.try_all-try_one-requires
-try_all-try_one-requires t c = (omega (arith, c.before.requires.0), tt)
+try_all-try_one-requires t c = (omega (arith, c.decreases), tt)
 
 pub try_all-shape_of-room-then-try_one : goal.try_all-shape_of-room-then-try_one
 try_all-shape_of-room-then-try_one t c = c.try_one.auto.room ∙ (c.loop-i.invariant.1.0 ∙ c.narrow_body-narrowed.auto.room)
 
 pub try_all-returns-then-try_one : goal.try_all-returns-then-try_one
 try_all-returns-then-try_one t c = let l = c.loop-i in
-    let x = c.before.args in
+    let x = c.args in
     let n = c.narrow_body-narrowed in
     filling.each-hit x.v l.i c.candidates-n.result c.loop-i-test.true c.candidates-n.ensures (l.invariant.1.1 x.room.now n.ensures n.auto.room c.candidates-n.ensures) (l.invariant.1.0 ∙ n.auto.room) c.try_one.ensures c.if-try_one.true
 
 pub try_all-loop-i-preserved : goal.try_all-loop-i-preserved
 try_all-loop-i-preserved t c = let l = c.loop-i in
-    (omega arith, (c.try_one.auto.room ∙ l.invariant.1.0, tried.from-miss c.before.args.v c.candidates-n.result l.i c.loop-i-test.true l.invariant.1.1 l.invariant.1.0 c.try_one.ensures c.if-try_one.false))
+    (omega arith, (c.try_one.auto.room ∙ l.invariant.1.0, tried.from-miss c.args.v c.candidates-n.result l.i c.loop-i-test.true l.invariant.1.1 l.invariant.1.0 c.try_one.ensures c.if-try_one.false))
 
 pub try_all-shape_of-room : goal.try_all-shape_of-room
 try_all-shape_of-room t c = c.push.auto.room ∙ (c.loop-i.invariant.1.0 ∙ c.narrow_body-narrowed.auto.room)
@@ -444,34 +444,34 @@ try_all-returns t c = let l = c.loop-i in
     filling.each-done x.v l.i c.candidates-n.result c.loop-i-test.false c.candidates-n.ensures (l.invariant.1.1 x.room.now n.ensures n.auto.room c.candidates-n.ensures) (l.invariant.1.0 ∙ n.auto.room) c.word_of.ensures c.push.ensures
 
 pub try_one-returns-then-not-may_use : goal.try_one-returns-then-not-may_use
-try_one-returns-then-not-may_use t c = let x = c.before.args in
+try_one-returns-then-not-may_use t c = let x = c.args in
     filling.with-barred x.v x.i c.may_use.result c.may_use.ensures (not-true c.may_use.result c.if-not-may_use.true-raw)
 
 pub try_one-shape_of-room-then-not-may_fit : goal.try_one-shape_of-room-then-not-may_fit
 try_one-shape_of-room-then-not-may_fit t c = c.push.auto.room
 
 pub try_one-returns-then-not-may_fit : goal.try_one-returns-then-not-may_fit
-try_one-returns-then-not-may_fit t c = let x = c.before.args in
+try_one-returns-then-not-may_fit t c = let x = c.args in
     filling.with-head x.v x.i c.may_use.result c.may_use.ensures (not-false c.may_use.result c.if-not-may_use.false-raw) c.word_of.ensures c.push.ensures c.may_fit.ensures (not-true c.may_fit.result c.if-not-may_fit.true-raw)
 
 pub try_one-body-requires : goal.try_one-body-requires
-try_one-body-requires t c = (omega (arith, c.before.requires.0), tt)
+try_one-body-requires t c = (omega (arith, c.decreases), tt)
 
 pub try_one-shape_of-room-then-not-body : goal.try_one-shape_of-room-then-not-body
 try_one-shape_of-room-then-not-body t c = c.body.auto.room ∙ c.push.auto.room
 
 pub try_one-returns-then-not-body : goal.try_one-returns-then-not-body
-try_one-returns-then-not-body t c = let x = c.before.args in
+try_one-returns-then-not-body t c = let x = c.args in
     filling.with-body x.v x.i c.may_use.result c.may_use.ensures (not-false c.may_use.result c.if-not-may_use.false-raw) c.word_of.ensures c.push.ensures c.body.ensures (not-true c.body.result c.if-not-body.true-raw)
 
 pub try_one-fill-requires : goal.try_one-fill-requires
-try_one-fill-requires t c = (omega (arith, c.before.requires.0), tt)
+try_one-fill-requires t c = (omega (arith, c.decreases), tt)
 
 pub try_one-shape_of-room : goal.try_one-shape_of-room
 try_one-shape_of-room t c = c.fill.auto.room ∙ (c.body.auto.room ∙ c.push.auto.room)
 
 pub try_one-returns : goal.try_one-returns
-try_one-returns t c = let x = c.before.args in
+try_one-returns t c = let x = c.args in
     filling.with-goes x.v x.i c.may_use.result c.may_use.ensures (not-false c.may_use.result c.if-not-may_use.false-raw) c.word_of.ensures c.push.ensures c.body.ensures (not-false c.body.result c.if-not-body.false-raw) c.body.auto.room c.fill.ensures
 
 pub under-returns-then-left-eq0 : goal.under-returns-then-left-eq0
@@ -493,10 +493,10 @@ pub use_clause-returns-in_default : goal.use_clause-returns-in_default
 use_clause-returns-in_default t c = (passing.by-none c.args.k c.open_clause.ensures c.in_default.is, locating.located-no-clause c.args.k)
 
 pub use_clause-start-requires : goal.use_clause-start-requires
-use_clause-start-requires t c = (omega (arith, c.before.requires.0, c.clause_parts-p.ensures.few), tt)
+use_clause-start-requires t c = (omega (arith, c.decreases, c.clause_parts-p.ensures.few), tt)
 
 pub use_clause-returns-then-p : goal.use_clause-returns-then-p
-use_clause-returns-then-p t c = (filling.by_parts c.before.args.k c.open_clause.ensures c.in-Clause.is c.clause_parts-p.ensures c.if-p.true c.start.ensures, locating.located-parts c.before.args.k c.open_clause.ensures c.in-Clause.is c.clause_parts-p.ensures c.if-p.true c.start.ensures)
+use_clause-returns-then-p t c = (filling.by_parts c.args.k c.open_clause.ensures c.in-Clause.is c.clause_parts-p.ensures c.if-p.true c.start.ensures, locating.located-parts c.args.k c.open_clause.ensures c.in-Clause.is c.clause_parts-p.ensures c.if-p.true c.start.ensures)
 
 pub use_clause-returns : goal.use_clause-returns
-use_clause-returns t c = (passing.by-clause c.before.args.k c.open_clause.ensures c.in-Clause.is c.through.ensures.0, locating.located-by c.before.args.k c.open_clause.ensures c.in-Clause.is c.through.ensures.1)
+use_clause-returns t c = (passing.by-clause c.args.k c.open_clause.ensures c.in-Clause.is c.through.ensures.0, locating.located-by c.args.k c.open_clause.ensures c.in-Clause.is c.through.ensures.1)

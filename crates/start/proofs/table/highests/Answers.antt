@@ -11,7 +11,7 @@ pub loop-i-init : goal.loop-i-init
 loop-i-init c = let x = c.args in (omega arith, high-none x.room.now x.terms.now)
 
 pub loop-i-preserved : goal.loop-i-preserved
-loop-i-preserved c = let x = c.before.args in
+loop-i-preserved c = let x = c.args in
     let l = c.loop-i in
     (omega arith, high-more x.room.now x.terms.now c.hold.result c.highest.result c.word_after-at.result l.invariant.1 (omega arith) c.word_after-at.ensures c.highest.ensures c.hold.ensures c.put.ensures)
 

@@ -8,7 +8,7 @@ use borrow.Author.Rules.{rules}
 use Rattle.table.proofs.path.carry.Goals as goal
 
 pub loop-k-preserved : goal.loop-k-preserved
-loop-k-preserved c = let x = c.before.args in let l = c.loop-k in
+loop-k-preserved c = let x = c.args in let l = c.loop-k in
     (omega arith, carried-next x.from l.k x.to l.invariant.1 c.word-w.ensures c.put.ensures)
 
 pub returns : goal.returns

@@ -6,21 +6,21 @@ use borrow.Author.Rules.{rules}
 use Rattle.uses.proofs.uses.open_clause.Goals as goal
 
 pub returns-in_default : goal.returns-in_default
-returns-in_default c = let x = c.before.args in
+returns-in_default c = let x = c.args in
     open-lost x.room.now x.k x.supposes x.top c.at_hand.ensures c.in_default.is
 
 pub returns-then-room-top : goal.returns-then-room-top
-returns-then-room-top c = let x = c.before.args in
+returns-then-room-top c = let x = c.args in
     open-short x.room.now x.k x.supposes x.top c.if-room-top.true
 
 pub returns-then-room-top-2 : goal.returns-then-room-top-2
-returns-then-room-top-2 c = let x = c.before.args in
+returns-then-room-top-2 c = let x = c.args in
     let l = c.if-room-top.false in
     let m = c.if-room-top-2.true in
     open_full x.room.now x.k x.supposes x.top c.at_hand.ensures c.in-Clause.is (omega arith)
 
 pub returns : goal.returns
-returns c = let x = c.before.args in
+returns c = let x = c.args in
     let l = c.if-room-top.false in
     let m = c.if-room-top-2.false in
     (c.in-Clause.x, sym c.at_hand.ensures ∙ c.in-Clause.is, omega arith, c.copy.ensures, refl)

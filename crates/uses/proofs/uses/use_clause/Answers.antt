@@ -49,7 +49,7 @@ pub shape_of-room : goal.shape_of-room
 shape_of-room c = c.follow.auto.room ∙ c.open_clause.auto.room
 
 pub returns : goal.returns
-returns c = let x = c.before.args in
+returns c = let x = c.args in
     λ ds us at steps more o d bs a u.
     let p = opened-clause u.place x.k _ c.in-Clause.x (opened-as x.room.now _ x.k x.w.supposed x.w.top c.open_clause.result _ c.in-Clause.is c.open_clause.ensures) in
     let z = reaches-as _ _ us o (follow (listed us) o p.hand.clause p.hand.bindings steps) c.in-Clause.x.base c.follow.result _ c.in-At.is (c.follow.ensures.followed (files_of x.rules.now x.goal.now x.terms.now) ds us o c.in-Clause.x.base c.in-Clause.x.count p.hand.clause p.hand.bindings steps u.place.openly (open-following u p _ c.part-clause.ensures)) in
