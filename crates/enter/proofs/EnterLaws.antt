@@ -1,25 +1,20 @@
 -- From what the code reads of a goal at its spot (its word, and where its first part ends) to what a node says there.
-use Prim.Native.Nat.{ℕ, suc, ◌+◌, ◌≤◌, ◌<◌, min}
+use Prim.Native.Nat.{ℕ, ◌+◌, ◌≤◌}
 use native.Mathlib.Omega.{arith}
 use mathlib.Core.Path.{◌≡◌, refl, sym, ◌∙◌, ap, subst}
-use mathlib.Core.List.{List, [], ◌∷◌}
-use mathlib.Core.Option.{Option, none, some}
+use mathlib.Core.List.{List}
 use mathlib.Core.Bool.{Bool, true, false, ◌&&◌}
 use lib.Dec.{ltb, leb}
 use borrow.Author.Tests.{leb-true, leb-false}
-use lib.ListN.{length, drop, set, get_or}
-use Rattle.basics.specs.Choice.{maybe}
+use lib.ListN.{drop, set, get_or}
 use Rattle.harrop.specs.Formula.{Term, Goal, Clause, Strip}
 use Rattle.harrop.specs.Bindings.{Bindings}
 use Rattle.harrop.specs.Place.{Hand, Plain, listed, allowed}
-use Rattle.harrop.specs.Views.{as_top, as_and, as_or, as_some, as_all, as_imp}
 use Rattle.harrop.specs.Check.{Judged, here, check}
 use Rattle.harrop.specs.declared.Binding.TheVariants.{Candidate, Parameter}
 use Rattle.harrop.proofs.ListLaws.{beyond-none}
 use Rattle.sexp.specs.Sexp.{Sexp, Stands, nesting}
-use Rattle.sexp.specs.Past.{PastAt, Ends}
-use Rattle.sexp.specs.declared.skip.After.{After}
-use Rattle.sexp.specs.declared.skip.After.TheVariants as after'
+use Rattle.sexp.specs.Past.{Ends}
 use Rattle.sexp.proofs.StandLaws.{stands-inside, string-once}
 use Rattle.sexp.specs.Decimal.{decimal}
 use Rattle.sexp.specs.Words.{is_number, worth}
@@ -29,8 +24,7 @@ use Rattle.sexp.proofs.WordsAtLaws.{numeral-stands}
 use Rattle.sexp.proofs.FoundLaws.{ends-here}
 use Rattle.packet.specs.Table.{rank}
 use Rattle.reader.specs.WordAt.{WordAt}
-use Rattle.packet.specs.Written.{number, goal_sexp, clause_sexp, strip_sexp}
-use Rattle.packet.specs.Offset.{width}
+use Rattle.packet.specs.Written.{number, goal_sexp}
 use Rattle.packet.specs.declared.Word.{Word}
 use Rattle.packet.specs.declared.Word.TheVariants as W
 use Rattle.room.specs.Frame.{binding_word, held}
@@ -40,8 +34,8 @@ use Rattle.start.proofs.TableLaws.{table-allowed}
 use Rattle.room.specs.Spot.{supposing}
 use Rattle.room.specs.declared.Where.{Where}
 use Rattle.room.proofs.WhereLaws.{file}
-use Rattle.uses.specs.Heads.{strip_word, goal_word, NodeShape, GoalShape}
-use Rattle.uses.specs.Walk.{Files, Framed, Means, Ready, Enters, plus, further, within, bound, supposes}
+use Rattle.uses.specs.Heads.{strip_word, goal_word, NodeShape}
+use Rattle.uses.specs.Walk.{Files, Framed, Ready, Enters, plus, further, within, bound, supposes}
 use Rattle.uses.specs.declared.Entered.{Entered}
 use Rattle.uses.specs.declared.Entered.TheVariants as E
 use Rattle.uses.proofs.HeadLaws.{part-stands, strip-says, goal-says, node-shape, shape_is, rank-once, not_top, not-and, not-or, not_some, not-all, not-imp}

@@ -1,5 +1,6 @@
 // One node of a strip judged at its own place (document 01, "When a strip fits").
 #![tactic(auto)]
+
 mod enter;
 
 pub use enter::{

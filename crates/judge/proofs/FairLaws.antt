@@ -1,7 +1,7 @@
 -- What is read is fair: refusal 5 leaves rules and goal closed, and candidates without variables and with parameters from 1 on (document 01, "The carrier and the words").
-use Prim.Native.Nat.{ℕ, suc, ◌≤◌, ◌<◌}
+use Prim.Native.Nat.{ℕ, suc, ◌≤◌}
 use mathlib.Core.Path.{◌≡◌}
-use mathlib.Core.Bool.{Bool, true, false, false≢true, ◌&&◌}
+use mathlib.Core.Bool.{Bool, true, false, false≢true}
 use mathlib.Core.List.{List, [], ◌∷◌}
 use lib.Dec.{leb}
 use borrow.Author.Tests.{ltb-true, leb-true}

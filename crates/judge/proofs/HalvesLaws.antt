@@ -21,7 +21,7 @@ use Rattle.judge.specs.declared.Verdict.{Verdict}
 use Rattle.judge.specs.declared.Verdict.TheVariants as Ver
 use Rattle.judge.specs.declared.request.Books.{Books}
 use Rattle.judge.specs.Verdict.{files_verdict}
-use Rattle.judge.specs.Halves.{Found, Opens, Stripping, Requests}
+use Rattle.judge.specs.Halves.{Opens, Stripping, Requests}
 
 -- the first half
 pub opens : (rs ts before after : List ℕ) (b : Books) → b.rules ≡ judged_of K.Rules rs → b.terms ≡ judged_of K.Terms ts → (words ≤ length before → Tabled after rs ts) → Opens rs ts before after b

@@ -2,7 +2,7 @@
 -- from 0, and p = 0), and the walk's answer there is the verdict.
 use Prim.Native.Nat.{ℕ, ◌+◌, ◌≤◌}
 use native.Mathlib.Omega.{arith}
-use mathlib.Core.Path.{◌≡◌, refl, sym, ◌∙◌, ap, subst}
+use mathlib.Core.Path.{◌≡◌, sym, ◌∙◌, ap, subst}
 use mathlib.Core.List.{List, []}
 use lib.ListN.{length}
 use Rattle.harrop.specs.Formula.{Strip}

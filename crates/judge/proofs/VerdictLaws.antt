@@ -10,13 +10,12 @@ use mathlib.Core.Option.{Option, none, some}
 use lib.Dec.{ltb}
 use lib.ListN.{length, replicate}
 use borrow.Author.Tests.{lt-ltb, le-ltb, ltb-true, ltb-false}
-use Rattle.basics.specs.Choice.{choose}
 use Rattle.harrop.specs.Formula.{Strip, height, nodes}
 use Rattle.harrop.specs.Place.{Plain, listed, root}
 use Rattle.harrop.specs.Position.{Position}
 use Rattle.harrop.specs.Proves.{ProvesAt}
 use Rattle.harrop.specs.Fits.{FirstMisfit}
-use Rattle.harrop.specs.Check.{Judged, check_at}
+use Rattle.harrop.specs.Check.{Judged}
 use Rattle.harrop.proofs.Judgement.{accepted-is-a-proof, proof-is-accepted, named-is-the-first-misfit, first-misfit-is-named}
 use Rattle.calculus.specs.Formula.{Formula}
 use Rattle.calculus.specs.Multiset.{◌≈◌}
@@ -33,7 +32,7 @@ use Rattle.packet.specs.Numbers.{reason_number}
 use Rattle.packet.specs.Written.{strip_sexp}
 use Rattle.packet.specs.Spells.{StripWords}
 use Rattle.packet.specs.Offset.{offset_of}
-use Rattle.packet.specs.File.{Outcome, Books, Packet, books_of, packet_of}
+use Rattle.packet.specs.File.{Outcome, Books, Packet, packet_of}
 use Rattle.packet.specs.Refusal.{Refusal, too_long, not_one, too_deep, not_built, too_many, is_barred, sound}
 use Rattle.packet.specs.Sound.{SoundFile, SoundBooks, SoundPacket, RefusedBooks, RefusedPacket, by_rules, by_goal, by_terms, by_books, by_strip}
 use Rattle.packet.proofs.PacketLaws.{books-only, packet-only, packet-exactly}

@@ -5,9 +5,7 @@ use Rattle.basics.specs.Choice.{choose}
 use Rattle.harrop.specs.Formula.{Strip}
 use Rattle.harrop.specs.Place.{listed, root}
 use Rattle.harrop.specs.Check.{Judged, check_at}
-use Rattle.packet.specs.declared.Reason.{Reason}
 use Rattle.packet.specs.declared.Reason.TheVariants as R
-use Rattle.packet.specs.declared.File.{File}
 use Rattle.packet.specs.declared.File.TheVariants as F
 use Rattle.packet.specs.Numbers.{reason_number, file_number}
 use Rattle.packet.specs.Offset.{offset_of}

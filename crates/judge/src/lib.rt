@@ -1,5 +1,6 @@
 // The checker: is this strip a proof of this goal from these rules, with these candidates (document 01, "When a strip fits", "What comes back").
 #![tactic(auto)]
+
 mod request;
 
 ghost use Rattle.judge.specs.Verdict.{Judgement};

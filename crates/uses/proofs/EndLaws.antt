@@ -1,6 +1,6 @@
 -- The end of a path (document 01, "When a strip fits"): it ends exactly at an atom or at G implies atom; that atom, variables replaced, equals the goal's; a third part is
 -- there exactly if an implication was reached.
-use Prim.Native.Nat.{ℕ, zero, suc, ◌+◌, ◌-◌, ◌≤◌, ◌<◌, max}
+use Prim.Native.Nat.{ℕ, ◌+◌, ◌≤◌}
 use native.Mathlib.Omega.{arith}
 use mathlib.Core.Path.{◌≡◌, refl, sym, ◌∙◌, ap, ap₂, subst}
 use mathlib.Core.Bool.{Bool, true, false}
@@ -12,25 +12,23 @@ use Rattle.basics.specs.Text.{octets}
 use Rattle.harrop.specs.Formula.{Term, Atom, Goal, Clause, Step, Strip}
 use Rattle.harrop.specs.Bindings.{Bindings, replaced_atom, same_atom}
 use Rattle.harrop.specs.Place.{Hand, End, Plain, follow, listed}
-use Rattle.harrop.specs.Check.{Judged, Position, here, above, check}
+use Rattle.harrop.specs.Check.{Judged, here, check}
 use Rattle.sexp.specs.Past.{Ends}
-use Rattle.sexp.specs.Sexp.{Sexp, Sexps, Stands, StandsAll, spell, nesting, nestings}
+use Rattle.sexp.specs.Sexp.{Sexp, Sexps, Stands, nesting, nestings}
 use Rattle.sexp.proofs.OntoLaws.{spell-some}
 use Rattle.sexp.proofs.StandLaws.{members-stand, first-stands, others-stand, none-closes, no-closing, stands-inside, cons-length}
-use Rattle.packet.specs.Written.{word, one, two, number, each, atom_sexp, goal_sexp, clause_sexp, step_sexp, path_sexp, strip_sexp}
+use Rattle.packet.specs.Written.{one, two, number, each, atom_sexp, goal_sexp, clause_sexp, step_sexp, path_sexp, strip_sexp}
 use Rattle.packet.specs.Barred.{atom_ok, goal_ok, clause_ok}
-use Rattle.packet.specs.Offset.{width, offset_of}
-use Rattle.room.specs.Layout.{levels, stack}
+use Rattle.packet.specs.Offset.{width}
+use Rattle.room.specs.Layout.{levels}
 use Rattle.room.specs.Spot.{file_of, bindings_at}
 use Rattle.equal.specs.Term.{AtomAt, SameAtoms}
 use Rattle.room.specs.declared.Spot.{Spot}
 use Rattle.room.specs.declared.Where.{Where}
 use Rattle.room.proofs.FrameLaws.{frame-length}
-use Rattle.room.proofs.NestLaws.{atom-nests, goal-nests}
 use Rattle.room.proofs.MoveLaws.{hand-higher}
-use Rattle.uses.specs.Walk.{Files, Means, Part, Told}
-use Rattle.uses.specs.Use.{use_of, concluded, matched, Heads, Headed, moved_to, Using, AtEnd}
-use Rattle.uses.specs.declared.Entered.{Entered}
+use Rattle.uses.specs.Walk.{Files, Means, Told}
+use Rattle.uses.specs.Use.{use_of, concluded, matched, Heads, Headed, moved_to, AtEnd}
 use Rattle.uses.specs.declared.Entered.TheVariants as E
 use Rattle.uses.specs.declared.uses.Head.{Head}
 use Rattle.uses.specs.declared.uses.Head.TheVariants as H

@@ -1,27 +1,26 @@
 -- A path followed through a clause step by step (document 01, "When a strip fits"): the part of the clause that is left, the frame so far, and where the path ends.
-use Prim.Native.Nat.{ℕ, zero, suc, ◌+◌, ◌-◌, ◌≤◌, ◌<◌}
+use Prim.Native.Nat.{ℕ, suc, ◌+◌, ◌-◌, ◌≤◌}
 use native.Mathlib.Omega.{arith}
 use mathlib.Core.Path.{◌≡◌, sym, ◌∙◌, ap, subst}
 use mathlib.Core.Bool.{Bool, true, false}
 use mathlib.Core.List.{List, [], ◌∷◌}
-use mathlib.Core.Option.{Option, none, some}
+use mathlib.Core.Option.{Option, none}
 use lib.ListN.{length, take, drop, set, length-drop, length-set}
 use Rattle.basics.specs.Choice.{provided}
 use Rattle.harrop.specs.declared.Binding.TheVariants.{Candidate}
 use Rattle.harrop.specs.Formula.{Term, Clause, Step}
 use Rattle.harrop.specs.Bindings.{Bindings}
 use Rattle.harrop.specs.Place.{End, Plain, allowed, follow, listed}
-use Rattle.sexp.specs.Sexp.{Sexp, Stands, nesting}
+use Rattle.sexp.specs.Sexp.{Sexp, Stands}
 use Rattle.sexp.proofs.StandLaws.{stands-before}
 use Rattle.packet.specs.Written.{clause_sexp}
-use Rattle.room.specs.Layout.{levels, stack}
 use Rattle.room.specs.Frame.{binding_word, held, bindings_in}
 use Rattle.room.proofs.FrameLaws.{frame_pushed, push_kept, kept-below}
 use Rattle.room.proofs.NestLaws.{clause-nests}
 use Rattle.start.proofs.TableLaws.{table-allowed}
 use Rattle.room.proofs.WhereLaws.{booked-kept, push-keeps}
 use Rattle.uses.specs.Walk.{Files, Booked}
-use Rattle.uses.specs.Use.{Left, Inner, Bound, Turns, Small, may_use, Binds, Following, Ending, Reaches, Followed}
+use Rattle.uses.specs.Use.{Left, Inner, Bound, Turns, Small, may_use, Binds, Following, Reaches, Followed}
 use Rattle.uses.specs.declared.uses.Turn.{Turn}
 use Rattle.uses.specs.declared.uses.Turn.TheVariants as T
 use Rattle.uses.specs.declared.uses.Reached.{Reached}

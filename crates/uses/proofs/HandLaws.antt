@@ -1,10 +1,10 @@
 -- The clause at hand that a `use` asks for (document 01, "When a strip fits"): a rule or a supposed clause, where it stands, and its bindings copied on top of the stack.
-use Prim.Native.Nat.{ℕ, zero, suc, ◌+◌, ◌-◌, ◌≤◌, ◌<◌}
+use Prim.Native.Nat.{ℕ, ◌+◌, ◌-◌, ◌≤◌, ◌<◌}
 use native.Mathlib.Omega.{arith}
 use mathlib.Core.Path.{◌≡◌, refl, sym, ◌∙◌, ap, subst}
 use mathlib.Core.Bool.{Bool, true, false}
-use mathlib.Core.List.{List, [], ◌∷◌}
-use mathlib.Core.Option.{Option, none, some}
+use mathlib.Core.List.{List}
+use mathlib.Core.Option.{none, some}
 use lib.Dec.{ltb}
 use lib.ListN.{length, get_or, get_elem?, take}
 use borrow.Author.Tests.{ltb-true, ltb-false, lt-ltb, le-ltb}
@@ -13,18 +13,16 @@ use Rattle.harrop.specs.Formula.{Term, Goal, Clause}
 use Rattle.harrop.specs.Bindings.{Bindings}
 use Rattle.harrop.specs.Place.{AtHand, Hand, Plain}
 use Rattle.harrop.proofs.ListLaws.{below-member, beyond-none}
-use Rattle.sexp.specs.Sexp.{Stands, nesting}
-use Rattle.packet.specs.Written.{clause_sexp}
 use Rattle.packet.specs.Barred.{clause_ok}
-use Rattle.room.specs.Layout.{levels, rules_word, rule_word, stack}
-use Rattle.room.specs.Frame.{bindings_in, copied}
-use Rattle.room.specs.Spot.{bindings_at, supposed_in, nowhere}
+use Rattle.room.specs.Layout.{levels, rules_word, rule_word}
+use Rattle.room.specs.Frame.{bindings_in}
+use Rattle.room.specs.Spot.{supposed_in, nowhere}
 use Rattle.room.specs.declared.Source.TheVariants as S
 use Rattle.room.specs.declared.Spot.{Spot}
 use Rattle.room.specs.declared.Where.{Where}
 use Rattle.room.proofs.FrameLaws.{frame-length, frame-copied, copy-kept, copy-length}
-use Rattle.uses.specs.Walk.{Files, Framed, Means}
-use Rattle.uses.specs.Use.{ClauseAt, rule_spot, clause_in, reframed, Opened}
+use Rattle.uses.specs.Walk.{Files, Means}
+use Rattle.uses.specs.Use.{ClauseAt, rule_spot, clause_in, Opened}
 use Rattle.uses.specs.declared.uses.Chosen.{Chosen}
 use Rattle.uses.specs.declared.uses.Chosen.TheVariants as C
 

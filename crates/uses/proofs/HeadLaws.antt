@@ -1,22 +1,21 @@
 -- What stands in a list that begins with a word: its parts, and how wide it is. The word of a node and of a goal, read from its bytes.
-use Prim.Native.Nat.{ℕ, zero, suc, ◌+◌, ◌≤◌, ◌<◌}
+use Prim.Native.Nat.{ℕ, ◌+◌}
 use native.Mathlib.Omega.{arith}
 use mathlib.Core.Path.{◌≡◌, refl, sym, ◌∙◌, ap, subst}
-use mathlib.Core.List.{List, [], ◌∷◌}
-use mathlib.Core.Logic.{◌⊎◌, inl, inr}
+use mathlib.Core.List.{List}
+use mathlib.Core.Logic.{inl, inr}
 use lib.ListN.{length, drop}
 use lib.Seq.{drop-drop}
-use Rattle.basics.specs.Text.{octets}
-use Rattle.harrop.specs.Formula.{Atom, Goal, Clause, Strip}
+use Rattle.harrop.specs.Formula.{Atom, Goal, Strip}
 use Rattle.harrop.specs.Place.{Plain}
-use Rattle.sexp.specs.Sexp.{Sexp, Sexps, Stands, StandsAll, spell, spells, nesting}
+use Rattle.sexp.specs.Sexp.{Sexp, Sexps, Stands, StandsAll, spell, spells}
 use Rattle.sexp.proofs.StandLaws.{members-stand, first-stands, others-stand, list_length, cons-length}
 use Rattle.packet.specs.declared.Word.{Word}
 use Rattle.packet.specs.Table.{word_of, rank}
 use Rattle.reader.specs.WordAt.{WordAt}
 use Rattle.reader.proofs.WordLaws.{word-is}
-use Rattle.packet.specs.Written.{word, one, two, atom_sexp, goal_sexp, strip_sexp}
-use mathlib.Core.Option.{Option, none, some}
+use Rattle.packet.specs.Written.{word, goal_sexp, strip_sexp}
+use mathlib.Core.Option.{none}
 use lib.Dec.{eqb}
 use Rattle.basics.specs.Choice.{choose}
 use Rattle.packet.specs.declared.Word.TheVariants as W

@@ -1,35 +1,25 @@
 -- What a node other than `use` says at its own place: it fits exactly if the goal has its word, and the places of its parts (document 01, "When a strip fits").
-use Prim.Native.Nat.{ℕ, zero, suc, ◌+◌, ◌*◌, ◌-◌, ◌≤◌, ◌<◌, max, min}
+use Prim.Native.Nat.{ℕ, suc, ◌+◌, ◌≤◌, ◌<◌}
 use native.Mathlib.Omega.{arith}
-use mathlib.Core.Path.{◌≡◌, refl, sym, ◌∙◌, ap, ap₂, subst}
+use mathlib.Core.Path.{◌≡◌, refl, sym, ◌∙◌, ap, subst}
 use mathlib.Core.List.{List, [], ◌∷◌, ◌++◌}
-use mathlib.Core.Option.{Option, none, some}
-use lib.ListN.{length, get_or, get_elem?, set}
-use lib.Seq.{get_or-set_other}
-use Rattle.basics.specs.Choice.{maybe, both_true}
+use lib.ListN.{length, set}
+use Rattle.basics.specs.Choice.{both_true}
 use Rattle.basics.specs.Text.{octets}
 use Rattle.harrop.specs.Formula.{Term, Goal, Clause, Strip}
 use Rattle.harrop.specs.Bindings.{Bindings}
 use Rattle.harrop.specs.Place.{Hand, Plain, listed, allowed}
-use Rattle.harrop.specs.Views.{as_top, as_and, as_or, as_some, as_all, as_imp}
-use Rattle.harrop.specs.Check.{Judged, Position, here, above, above_both, check}
-use Rattle.sexp.specs.Sexp.{Sexp, Sexps, Stands, StandsAll, spell, spells, nesting}
+use Rattle.harrop.specs.Check.{Judged, Position, here, check}
+use Rattle.sexp.specs.Sexp.{Sexp, Sexps, Stands, spell, nesting}
 use Rattle.sexp.specs.Decimal.{decimal_onto}
-use Rattle.sexp.specs.Past.{PastAt, Ends}
-use Rattle.sexp.proofs.StandLaws.{first-stands, others-stand, stands-inside, stands-once, cons-length}
+use Rattle.sexp.specs.Past.{Ends}
+use Rattle.sexp.proofs.StandLaws.{first-stands, others-stand, stands-once, cons-length}
 use Rattle.packet.specs.Written.{word, one, two, number, goal_sexp, clause_sexp, strip_sexp}
 use Rattle.packet.specs.Offset.{width, offset_of}
 use Rattle.packet.specs.Barred.{goal_ok, clause_ok}
-use Rattle.packet.specs.File.{most_bytes}
-use Rattle.packet.specs.declared.Word.{Word}
-use Rattle.packet.specs.declared.Word.TheVariants as W
-use Rattle.room.specs.Layout.{words, levels, supposed_at_most, Enough}
+use Rattle.room.specs.Layout.{words, supposed_at_most}
 use Rattle.room.specs.Spot.{supposing}
-use Rattle.room.specs.declared.Source.{Source}
-use Rattle.room.specs.declared.Source.TheVariants as S
-use Rattle.room.specs.declared.Spot.{Spot}
-use Rattle.uses.specs.Heads.{strip_word, goal_word}
-use Rattle.uses.specs.Walk.{Files, Live, Kept, Framed, HandIn, Booked, Means, Ready, Part, Told, Enters, plus, further, within, bound, supposes}
+use Rattle.uses.specs.Walk.{Files, Means, Ready, Part, Enters, further, within, bound, supposes}
 use Rattle.room.specs.declared.Where.{Where}
 use Rattle.room.proofs.WhereLaws.{file, part-means, push-keeps}
 use Rattle.room.proofs.MoveLaws.{bound-means, suppose-keeps, supposes-means}
@@ -37,10 +27,10 @@ use Rattle.room.specs.Frame.{binding_word, held}
 use Rattle.harrop.specs.declared.Binding.TheVariants.{Candidate, Parameter}
 use Rattle.harrop.proofs.PlaceLaws.{allowed-may, may-below}
 use Rattle.uses.proofs.WalkLaws.{strip-nests}
-use mathlib.Core.Bool.{Bool, true}
+use mathlib.Core.Bool.{true}
 use Rattle.uses.specs.declared.Entered.{Entered}
 use Rattle.uses.specs.declared.Entered.TheVariants as E
-use Rattle.uses.proofs.HeadLaws.{after-word, word_width, shape_is, not_top, not-and, not-or, not_some, not-all, not-imp, node-shape}
+use Rattle.uses.proofs.HeadLaws.{after-word, word_width}
 
 -- where the expression that stands there ends
 pub ends_is : {s : List ℕ} {at nest n : ℕ} {e : Sexp} → Stands s at e → Ends s at nest n → n ≡ at + length (spell e)

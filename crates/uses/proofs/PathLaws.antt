@@ -1,33 +1,31 @@
 -- A path that takes a clause apart from outside (document 01, "When a strip fits"): what its next step does to a clause, where both stand in bytes.
-use Prim.Native.Nat.{ℕ, zero, suc, ◌+◌, ◌-◌, ◌≤◌, ◌<◌}
+use Prim.Native.Nat.{ℕ, ◌+◌, ◌≤◌, ◌<◌}
 use native.Mathlib.Omega.{arith}
 use mathlib.Core.Path.{◌≡◌, refl, sym, ◌∙◌, ap, subst}
 use mathlib.Core.Bool.{Bool, true, false}
 use mathlib.Core.List.{List, [], ◌∷◌}
-use mathlib.Core.Option.{Option, none, some}
 use lib.Dec.{ltb, eqb}
-use lib.ListN.{length, get_or, get_elem?}
+use lib.ListN.{get_or}
 use borrow.Author.Tests.{ltb-true, ltb-false, eqb-true, eqb-false}
 use Rattle.basics.specs.Choice.{both_true, provided}
 use Rattle.basics.specs.Text.{octets}
 use Rattle.harrop.specs.declared.Binding.TheVariants.{Candidate}
-use Rattle.harrop.specs.Formula.{Term, Atom, Goal, Clause, Step}
-use Rattle.harrop.specs.Bindings.{Bindings}
+use Rattle.harrop.specs.Formula.{Atom, Clause, Step}
 use Rattle.harrop.specs.Place.{Plain, allowed, follow, listed}
 use Rattle.harrop.proofs.ListLaws.{beyond-none}
-use Rattle.sexp.specs.Decimal.{decimal, decimal_onto}
+use Rattle.sexp.specs.Decimal.{decimal}
 use Rattle.sexp.specs.Words.{worth, is_number}
 use Rattle.sexp.specs.WordsAt.{Numeral}
 use Rattle.sexp.specs.Past.{Ends}
-use Rattle.sexp.specs.Sexp.{Sexp, Sexps, Stands, StandsAll, spell, nesting}
+use Rattle.sexp.specs.Sexp.{Sexp, Sexps, Stands, StandsAll, nesting}
 use Rattle.sexp.proofs.DecimalLaws.{onto-first}
 use Rattle.sexp.proofs.WordLaws.{worth-decimal, decimal-is}
 use Rattle.sexp.proofs.WordsAtLaws.{numeral-stands}
 use Rattle.sexp.proofs.StandLaws.{members-stand, first-stands, others-stand, none-closes, no-closing, string-once}
-use Rattle.packet.specs.Written.{word, one, two, number, each, atom_sexp, goal_sexp, clause_sexp, step_sexp}
+use Rattle.packet.specs.Written.{word, number, each, clause_sexp, step_sexp}
 use Rattle.packet.specs.Barred.{clause_ok}
 use Rattle.packet.specs.Offset.{width}
-use Rattle.room.specs.Layout.{levels, candidates_at_most}
+use Rattle.room.specs.Layout.{levels}
 use Rattle.uses.specs.Use.{Inner, Bound, Turns, AtAnd, AtAll}
 use Rattle.uses.specs.declared.uses.Turn.{Turn}
 use Rattle.uses.specs.declared.uses.Turn.TheVariants as T

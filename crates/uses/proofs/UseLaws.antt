@@ -1,11 +1,11 @@
 -- The node `use` at its place (document 01, "When a strip fits"): from the clause that is opened over the path that is followed to what the node says, and that what the
 -- place relies on is kept.
-use Prim.Native.Nat.{ℕ, zero, suc, ◌+◌, ◌-◌, ◌*◌, ◌≤◌, ◌<◌}
+use Prim.Native.Nat.{ℕ, ◌+◌, ◌-◌, ◌≤◌, ◌<◌}
 use native.Mathlib.Omega.{arith}
 use mathlib.Core.Path.{◌≡◌, refl, sym, ◌∙◌, ap, ap₂, subst}
-use mathlib.Core.Bool.{Bool, true, false}
-use mathlib.Core.List.{List, [], ◌∷◌}
-use mathlib.Core.Logic.{◌⊎◌, inl, inr}
+use mathlib.Core.Bool.{true}
+use mathlib.Core.List.{List, []}
+use mathlib.Core.Logic.{inl, inr}
 use mathlib.Core.Option.{Option, none, some}
 use lib.ListN.{length, get_or, get_elem?, take, drop}
 use Rattle.basics.specs.Choice.{◌>>=◌, maybe}
@@ -16,14 +16,14 @@ use Rattle.harrop.specs.Place.{AtHand, Hand, End, Plain, follow, listed}
 use Rattle.harrop.specs.Views.{as_atom}
 use Rattle.harrop.specs.Check.{Judged, here, above, body_of, used, check}
 use Rattle.harrop.proofs.ListLaws.{beyond-none}
-use Rattle.sexp.specs.Sexp.{Sexp, Stands, nesting}
+use Rattle.sexp.specs.Sexp.{Sexp, Stands}
 use Rattle.sexp.proofs.StandLaws.{members-stand, first-stands}
 use Rattle.packet.specs.Written.{number, goal_sexp, clause_sexp, strip_sexp}
 use Rattle.packet.specs.Barred.{clause_ok}
 use Rattle.packet.specs.Offset.{width}
 use Rattle.packet.specs.declared.Word.{Word}
 use Rattle.packet.specs.declared.Word.TheVariants as W
-use Rattle.room.specs.Layout.{words, levels, supposed_at_most, stack}
+use Rattle.room.specs.Layout.{supposed_at_most, stack}
 use Rattle.room.specs.Frame.{bindings_in}
 use Rattle.room.specs.Spot.{file_of}
 use Rattle.room.specs.declared.Spot.{Spot}

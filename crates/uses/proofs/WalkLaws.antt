@@ -1,22 +1,21 @@
 -- The walk down the strip, one node at a time: from what a node says of itself and what its parts say to what the walk says.
-use Prim.Native.Nat.{ℕ, zero, suc, ◌+◌, ◌*◌, ◌-◌, ◌≤◌, ◌<◌, max}
+use Prim.Native.Nat.{ℕ, ◌+◌, ◌-◌, ◌≤◌, ◌<◌, max}
 use native.Mathlib.Omega.{arith}
-use mathlib.Core.Path.{◌≡◌, refl, sym, ◌∙◌, ap, ap₂, subst}
+use mathlib.Core.Path.{◌≡◌, refl, sym, ◌∙◌, ap, subst}
 use mathlib.Core.List.{List, [], ◌∷◌}
-use lib.ListN.{length, get_or}
+use lib.ListN.{length}
 use Rattle.sexp.proofs.OntoLaws.{spell-some}
-use Rattle.room.specs.Layout.{words, levels, Enough}
 use Rattle.harrop.specs.Formula.{Term, Goal, Clause, Strip}
 use Rattle.harrop.specs.Bindings.{Bindings}
 use Rattle.harrop.specs.Place.{Hand, Plain, listed}
-use Rattle.harrop.specs.Check.{Judged, Position, here, above, above_both, check}
+use Rattle.harrop.specs.Check.{Judged, Position, above, above_both, check}
 use Rattle.sexp.specs.Sexp.{Stands, nesting}
-use Rattle.sexp.proofs.StandLaws.{stands-inside, stands-before}
-use Rattle.packet.specs.Written.{strip_sexp, goal_sexp}
+use Rattle.sexp.proofs.StandLaws.{stands-inside}
+use Rattle.packet.specs.Written.{strip_sexp}
 use Rattle.packet.specs.Offset.{width, offset_of}
-use Rattle.uses.specs.Walk.{Files, Kept, Ready, Part, Told, Enters, Judges, Bounded, outcome}
+use Rattle.uses.specs.Walk.{Files, Ready, Part, Enters, Judges, Bounded, outcome}
 use Rattle.room.specs.declared.Where.{Where}
-use Rattle.room.proofs.WhereLaws.{live_more, kept_then, kept_less, means-kept}
+use Rattle.room.proofs.WhereLaws.{kept_then, kept_less, means-kept}
 use Rattle.uses.specs.declared.Entered.{Entered}
 use Rattle.uses.specs.declared.Entered.TheVariants as E
 use Rattle.uses.specs.declared.Outcome.{Outcome}

@@ -7,7 +7,7 @@ use Rattle.basics.specs.Choice.{choose, ◌>>=◌, provided, maybe}
 use Rattle.harrop.specs.declared.Binding.TheVariants.{Candidate}
 use Rattle.harrop.specs.Formula.{Term, Atom, Goal, Clause, Step, Strip}
 use Rattle.harrop.specs.Bindings.{Bindings, replaced_atom, same_atom}
-use Rattle.harrop.specs.Place.{Candidates, AtHand, Hand, End, Plain, allowed, follow, listed}
+use Rattle.harrop.specs.Place.{Candidates, Hand, End, Plain, allowed, follow, listed}
 use Rattle.harrop.specs.Check.{Judged, here, above, head_of, body_of, check}
 use Rattle.sexp.specs.Sexp.{Sexp, Stands, StandsAll, nesting}
 use Rattle.packet.specs.Written.{number, each, atom_sexp, goal_sexp, clause_sexp, step_sexp, strip_sexp}

@@ -1,14 +1,12 @@
 -- What a place is in the work room, and what the walk down the strip says of it (document 01, "When a strip fits").
 -- The places are those of crate harrop; here stands how the room and the files' bytes show one.
-use Rattle.std.specs.Prelude.{ℕ, zero, suc, ◌+◌, ◌*◌, ◌≤◌, ◌<◌, ◌-◌, min, ◌≡◌, List, [], ◌∷◌, ◌++◌, length, get_or}
-use Rattle.std.proofs.Math.Option.{Option, none, some}
-use Rattle.std.proofs.Math.ListN.{get_elem?}
+use Rattle.std.specs.Prelude.{ℕ, suc, ◌+◌, ◌≤◌, ◌<◌, ◌≡◌, List, ◌∷◌, length}
 use Rattle.harrop.specs.Formula.{Term, Goal, Clause, Strip}
 use Rattle.harrop.specs.Bindings.{Bindings}
-use Rattle.harrop.specs.Place.{AtHand, Hand, Plain, listed}
+use Rattle.harrop.specs.Place.{Hand, Plain, listed}
 use Rattle.harrop.specs.Check.{Judged, Position, here, above, above_both, check}
-use Rattle.sexp.specs.Sexp.{Sexp, Stands, nesting}
-use Rattle.packet.specs.Written.{goal_sexp, clause_sexp, strip_sexp}
+use Rattle.sexp.specs.Sexp.{Stands, nesting}
+use Rattle.packet.specs.Written.{strip_sexp}
 use Rattle.packet.specs.Offset.{width, offset_of}
 use Rattle.packet.specs.File.{most_bytes}
 use Rattle.room.specs.Layout.{words, levels, Enough}

@@ -1,5 +1,6 @@
 // The use of a clause, judged at its own place: the clause at hand, the path into it, the atom at its end (document 01, "When a strip fits").
 #![tactic(auto)]
+
 mod uses;
 
 use room::Where;

@@ -3,7 +3,6 @@ use Prim.Native.Nat.{ℕ}
 use mathlib.Core.Path.{◌∙◌, ap}
 use lib.ListN.{replicate}
 use Rattle.judge.proofs.VerdictLaws.{judgement-short, judgement-long}
-use borrow.Author.Rules.{rules}
 use Rattle.judge.proofs.judge.Goals as goal
 
 pub returns-then-room-lt8192 : goal.returns-then-room-lt8192

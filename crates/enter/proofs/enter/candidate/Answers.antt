@@ -2,7 +2,6 @@
 use mathlib.Core.Path.{ap}
 use Rattle.harrop.specs.declared.Binding.TheVariants.{Candidate}
 use native.Mathlib.Omega.{arith}
-use borrow.Author.Rules.{rules}
 use Rattle.enter.proofs.enter.candidate.Goals as goal
 
 pub returns-then-i-lt4294967295 : goal.returns-then-i-lt4294967295

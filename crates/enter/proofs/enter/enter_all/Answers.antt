@@ -2,7 +2,6 @@
 use mathlib.Core.Path.{sym, ◌∙◌}
 use Rattle.packet.specs.Table.{rank}
 use Rattle.enter.proofs.EnterLaws.{one_alike, says-as, all-other, all_same, all-never}
-use borrow.Author.Rules.{rules}
 use Rattle.enter.proofs.enter.enter_all.Goals as goal
 
 pub returns-then-rank-ne8 : goal.returns-then-rank-ne8

@@ -4,7 +4,6 @@ use Rattle.packet.specs.Table.{rank}
 use Rattle.sexp.proofs.AnswerLaws.{past_next, past-nothing}
 use Rattle.uses.proofs.WalkLaws.{enter-is}
 use Rattle.enter.proofs.EnterLaws.{two-alike, and-other, and_same, and-never}
-use borrow.Author.Rules.{rules}
 use Rattle.enter.proofs.enter.enter_and.Goals as goal
 
 pub returns-then-rank-ne5 : goal.returns-then-rank-ne5

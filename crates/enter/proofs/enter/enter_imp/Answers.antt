@@ -4,7 +4,6 @@ use Rattle.packet.specs.Table.{rank}
 use Rattle.sexp.proofs.AnswerLaws.{past_next, past-nothing}
 use Rattle.room.specs.Spot.{supposing}
 use Rattle.enter.proofs.EnterLaws.{one_alike, says-as, imp-other, imp-same, imp-never}
-use borrow.Author.Rules.{rules}
 use Rattle.enter.proofs.enter.enter_imp.Goals as goal
 
 pub returns-then-rank-ne9 : goal.returns-then-rank-ne9

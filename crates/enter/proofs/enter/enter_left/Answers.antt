@@ -3,7 +3,6 @@ use mathlib.Core.Path.{sym, ◌∙◌}
 use Rattle.packet.specs.Table.{rank}
 use Rattle.uses.proofs.WalkLaws.{enter-is}
 use Rattle.enter.proofs.EnterLaws.{one_alike, left_other, left-same}
-use borrow.Author.Rules.{rules}
 use Rattle.enter.proofs.enter.enter_left.Goals as goal
 
 pub returns-then-rank-ne6 : goal.returns-then-rank-ne6

@@ -4,7 +4,6 @@ use Rattle.packet.specs.Table.{rank}
 use Rattle.sexp.proofs.AnswerLaws.{past_next, past-nothing}
 use Rattle.uses.proofs.WalkLaws.{enter-is}
 use Rattle.enter.proofs.EnterLaws.{one_alike, right-other, right-same, right-never}
-use borrow.Author.Rules.{rules}
 use Rattle.enter.proofs.enter.enter_right.Goals as goal
 
 pub returns-then-rank-ne6 : goal.returns-then-rank-ne6

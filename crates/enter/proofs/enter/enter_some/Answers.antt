@@ -8,7 +8,6 @@ use Rattle.packet.specs.Table.{rank}
 use Rattle.sexp.proofs.AnswerLaws.{past_next, past-nothing}
 use Rattle.sexp.proofs.WordsAtLaws.{number_is, number-nothing}
 use Rattle.enter.proofs.EnterLaws.{one_alike, says-as, numeral-from, no-numeral-from, ends-from, nothing-from, some-other, some-refused, some-nothing, some-never, some_same}
-use borrow.Author.Rules.{rules}
 use Rattle.enter.proofs.enter.enter_some.Goals as goal
 
 pub returns-then-rank-ne7 : goal.returns-then-rank-ne7

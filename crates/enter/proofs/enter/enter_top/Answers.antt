@@ -4,7 +4,6 @@ use Rattle.packet.specs.Table.{rank}
 use Rattle.uses.specs.declared.Entered.TheVariants as E
 use Rattle.uses.proofs.WalkLaws.{enter-is}
 use Rattle.enter.proofs.EnterLaws.{top-other, top-same}
-use borrow.Author.Rules.{rules}
 use Rattle.enter.proofs.enter.enter_top.Goals as goal
 
 pub returns-then-rank-ne4 : goal.returns-then-rank-ne4

@@ -1,7 +1,6 @@
 -- `rank` meets its contract.
 use mathlib.Core.Path.{sym, ap}
 use Rattle.packet.specs.Table.{rank}
-use borrow.Author.Rules.{rules}
 use Rattle.enter.proofs.enter.rank.Goals as goal
 
 pub returns-in-V : goal.returns-in-V

@@ -1,6 +1,5 @@
 -- `judge_files` of src/request.rt: the two halves, one after the other.
 use native.Mathlib.Omega.{arith}
-use borrow.Author.Rules.{rules}
 use Rattle.judge.proofs.request.judge_files.Goals as goal
 
 pub returns : goal.returns

@@ -1,6 +1,5 @@
 -- `judge_request` of src/request.rt: refused as the files come in turn, or judged.
 use Rattle.judge.proofs.HalvesLaws.{request-refused, request-judged, strip-judged}
-use borrow.Author.Rules.{rules}
 use Rattle.judge.proofs.request.judge_request.Goals as goal
 
 pub returns-in-Refused : goal.returns-in-Refused

@@ -1,6 +1,5 @@
 -- `judge_strip` of src/request.rt: the walk from the root place says the verdict.
 use Rattle.judge.proofs.RootLaws.{strip-fits, strip-misfits}
-use borrow.Author.Rules.{rules}
 use Rattle.judge.proofs.request.judge_strip.Goals as goal
 
 pub returns-in-Fits : goal.returns-in-Fits

@@ -1,6 +1,5 @@
 -- `open_books` of src/request.rt: the tables of sound files are right.
 use Rattle.judge.proofs.HalvesLaws.{opens}
-use borrow.Author.Rules.{rules}
 use Rattle.judge.proofs.request.open_books.Goals as goal
 
 pub returns : goal.returns

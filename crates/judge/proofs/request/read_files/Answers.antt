@@ -1,7 +1,6 @@
 -- `read_files` of src/request.rt: the files in turn.
 use mathlib.Core.Path.{sym, ◌∙◌}
 use Rattle.judge.proofs.HalvesLaws.{by-rules, by-goal, by-terms, by-strip, all_read}
-use borrow.Author.Rules.{rules}
 use Rattle.judge.proofs.request.read_files.Goals as goal
 
 pub returns-in-Refused : goal.returns-in-Refused

@@ -1,5 +1,5 @@
 -- `follow` of src/uses.rt meets its contract: what is left of the nesting falls at each step. Assumes nothing.
-use mathlib.Core.Path.{refl, sym, ap, ◌∙◌}
+use mathlib.Core.Path.{refl, ap}
 use mathlib.Core.Bool.{true, false}
 use lib.ListN.{take}
 use borrow.Author.Tests.{not-true, not-false}
@@ -8,7 +8,6 @@ use Rattle.room.proofs.FileLaws.{rest-whole}
 use Rattle.uses.proofs.FollowLaws.{follow-shut, follow-none, follow-ended, into-followed, bound-shut, bound-followed, bound-kept, turns_as, small-as, binds-as}
 use native.Mathlib.Omega.{arith}
 use borrow.Author.Rules.{rules}
-use Prim.Native.Nat.{ℕ, ◌<◌}
 use Rattle.uses.proofs.uses.+follow.Goals as goal
 
 pub returns-then-nest-eq0 : goal.returns-then-nest-eq0
@@ -20,7 +19,7 @@ returns-then-clause-i t c = let x = c.args in
       kept = refl;
       followed = λ f ds us o base count d bs path e h.
           let n = turns_as x.clause.now x.strip.now d path c.next_turn.result _ c.in-Into.is (c.next_turn.ensures.turned d path h.stands (omega (arith, h.shallow)) h.steps) in
-          absurd (omega (arith, stands-before n.stands))
+          absurd (omega (arith, stands-before n.stands));
     }
 
 pub returns-then-clause-lt6 : goal.returns-then-clause-lt6
@@ -29,7 +28,7 @@ returns-then-clause-lt6 t c = let x = c.args in
       kept = refl;
       followed = λ f ds us o base count d bs path e h.
           let n = turns_as x.clause.now x.strip.now d path c.next_turn.result _ c.in-Bound.is (c.next_turn.ensures.turned d path h.stands (omega (arith, h.shallow)) h.steps) in
-          absurd (omega (arith, stands-before n.stands))
+          absurd (omega (arith, stands-before n.stands));
     }
 
 pub bind-requires : goal.bind-requires
@@ -42,7 +41,7 @@ returns-then-not-bind t c = let x = c.args in
       kept = ap (take x.top) b.0;
       followed = λ f ds us o base count d bs path e h.
           let n = turns_as x.clause.now x.strip.now d path c.next_turn.result _ c.in-Bound.is (c.next_turn.ensures.turned d path h.stands (omega (arith, h.shallow)) h.steps) in
-          bound-shut h o e n b
+          bound-shut h o e n b;
     }
 
 pub overflow_add-top : goal.overflow_add-top
@@ -64,8 +63,8 @@ returns-else-clause-i t c = let x = c.args in record {
   kept = c.follow.ensures.kept;
   followed = λ f ds us o base count d bs path e h.
       let n = turns_as x.clause.now x.strip.now d path c.next_turn.result _ c.in-Into.is (c.next_turn.ensures.turned d path h.stands (omega (arith, h.shallow)) h.steps) in
-      into-followed h o e c.if-nest-eq0.false n _ (rest-whole x.clause.now c.in-Into.i) _ c.follow.result c.follow.ensures.followed
-    }
+      into-followed h o e c.if-nest-eq0.false n _ (rest-whole x.clause.now c.in-Into.i) _ c.follow.result c.follow.ensures.followed;
+}
 
 pub returns-else-not-bind : goal.returns-else-not-bind
 returns-else-not-bind t c = let x = c.args in
@@ -74,5 +73,5 @@ returns-else-not-bind t c = let x = c.args in
       kept = bound-kept x.room.now _ _ x.top c.in-Bound.n x.parameters b c.follow-in-Bound.ensures.kept;
       followed = λ f ds us o base count d bs path e h.
           let n = turns_as x.clause.now x.strip.now d path c.next_turn.result _ c.in-Bound.is (c.next_turn.ensures.turned d path h.stands (omega (arith, h.shallow)) h.steps) in
-          bound-followed h o e n c.if-nest-eq0.false l b _ (rest-whole x.clause.now 6) _ c.follow-in-Bound.result c.follow-in-Bound.ensures.followed
+          bound-followed h o e n c.if-nest-eq0.false l b _ (rest-whole x.clause.now 6) _ c.follow-in-Bound.result c.follow-in-Bound.ensures.followed;
     }

@@ -7,7 +7,6 @@ use Rattle.uses.proofs.NodeLaws.{ends_is}
 use Rattle.uses.proofs.PathLaws.{far-number, number-agrees}
 use Rattle.uses.proofs.EndLaws.{use-number, ends-inside}
 use native.Mathlib.Omega.{arith}
-use borrow.Author.Rules.{rules}
 use Rattle.uses.proofs.uses.asked_for.Goals as goal
 
 pub returns-then-strip-at : goal.returns-then-strip-at

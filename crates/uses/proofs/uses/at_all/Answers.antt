@@ -1,8 +1,6 @@
 -- `at_all` of src/uses.rt meets its contract. Assumes nothing.
 use Rattle.sexp.proofs.WordsAtLaws.{number_is, number-nothing, numeral-stands}
 use Rattle.uses.proofs.PathLaws.{all_none, all-bound}
-use native.Mathlib.Omega.{arith}
-use borrow.Author.Rules.{rules}
 use Rattle.uses.proofs.uses.at_all.Goals as goal
 
 pub returns-in-Nothing : goal.returns-in-Nothing

@@ -1,11 +1,8 @@
 -- `at_and` of src/uses.rt meets its contract. Assumes nothing.
-use mathlib.Core.Path.{sym, ◌∙◌}
 use borrow.Author.Tests.{not-true, not-false}
 use Rattle.basics.specs.Tells.{told-yes, told-no}
 use Rattle.sexp.proofs.AnswerLaws.{past_next, past-nothing}
 use Rattle.uses.proofs.PathLaws.{and_left, and_right, and-neither, and-found}
-use native.Mathlib.Omega.{arith}
-use borrow.Author.Rules.{rules}
 use Rattle.uses.proofs.uses.at_and.Goals as goal
 
 pub returns-then-is_word : goal.returns-then-is_word

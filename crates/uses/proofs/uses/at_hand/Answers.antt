@@ -1,7 +1,5 @@
 -- `at_hand` of src/uses.rt meets its contract. Assumes nothing.
 use Rattle.uses.proofs.HandLaws.{rule-chosen, supposed-chosen, none-chosen}
-use native.Mathlib.Omega.{arith}
-use borrow.Author.Rules.{rules}
 use Rattle.uses.proofs.uses.at_hand.Goals as goal
 
 pub returns-then-k-rules : goal.returns-then-k-rules

@@ -3,9 +3,7 @@ use borrow.Author.Tests.{not-true, not-false}
 use Rattle.sexp.proofs.AnswerLaws.{past_next, past-nothing}
 use Rattle.uses.specs.Walk.{files_of}
 use Rattle.uses.proofs.PathLaws.{closes-yes, closes-no}
-use Rattle.uses.proofs.EndLaws.{end-found, end-next, end-heads, end-nothing, fact-open, fact-differs, fact-fits, imp-shut, imp-differs, imp-fits, ends-inside}
-use native.Mathlib.Omega.{arith}
-use borrow.Author.Rules.{rules}
+use Rattle.uses.proofs.EndLaws.{end-found, end-next, end-heads, end-nothing, fact-open, fact-differs, fact-fits, imp-shut, imp-differs, imp-fits}
 use Rattle.uses.proofs.uses.conclude.Goals as goal
 
 pub returns-in_default : goal.returns-in_default

@@ -8,7 +8,6 @@ use Rattle.packet.specs.Offset.{width}
 use Rattle.room.specs.Spot.{file_of}
 use Rattle.uses.specs.Use.{use_of}
 use Rattle.uses.proofs.UseLaws.{use-shape, asks-as, inside-as, goal-atom, goal-other, enter-far, enter-other, use-stands, enter-using, enter-used}
-use native.Mathlib.Omega.{arith}
 use borrow.Author.Rules.{rules}
 use Rattle.uses.proofs.uses.enter_use.Goals as goal
 

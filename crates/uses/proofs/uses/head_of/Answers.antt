@@ -6,7 +6,6 @@ use Rattle.room.specs.Spot.{file_of}
 use Rattle.equal.proofs.EqualLaws.{file-length}
 use Rattle.uses.proofs.EndLaws.{head-fact, head-neither, head-lost, head-implies, head-bound}
 use native.Mathlib.Omega.{arith}
-use borrow.Author.Rules.{rules}
 use Rattle.uses.proofs.uses.head_of.Goals as goal
 
 pub returns-then-is_word : goal.returns-then-is_word

@@ -2,8 +2,6 @@
 use Rattle.basics.specs.Tells.{told-yes, told-no}
 use Rattle.sexp.proofs.AnswerLaws.{past_next, past-nothing}
 use Rattle.uses.proofs.PathLaws.{closes-yes, closes-no, turn-and, turn-all, turn-neither, turn-ended, turn-found}
-use native.Mathlib.Omega.{arith}
-use borrow.Author.Rules.{rules}
 use Rattle.uses.proofs.uses.next_turn.Goals as goal
 
 pub returns-then-closes : goal.returns-then-closes

@@ -2,7 +2,6 @@
 use mathlib.Core.Path.{refl, sym, ◌∙◌}
 use Rattle.uses.proofs.HandLaws.{open-lost, open-short, open_full}
 use native.Mathlib.Omega.{arith}
-use borrow.Author.Rules.{rules}
 use Rattle.uses.proofs.uses.open_clause.Goals as goal
 
 pub returns-in_default : goal.returns-in_default

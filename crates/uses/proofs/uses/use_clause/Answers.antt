@@ -7,7 +7,6 @@ use Rattle.uses.proofs.FollowLaws.{reaches-as}
 use Rattle.uses.proofs.HandLaws.{opened-as, opened_inside, opened-none, opened-clause}
 use Rattle.uses.proofs.UseLaws.{use-none, open-following, use-lost, left-inside, end-above, use-end, use-says}
 use native.Mathlib.Omega.{arith}
-use borrow.Author.Rules.{rules}
 use Rattle.uses.proofs.uses.use_clause.Goals as goal
 
 pub returns-in_default : goal.returns-in_default

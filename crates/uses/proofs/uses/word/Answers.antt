@@ -1,8 +1,6 @@
 -- `word` of src/uses.rt meets its contract. Assumes nothing.
 use mathlib.Core.Path.{sym}
 use lib.ListN.{get_or-eq_default}
-use native.Mathlib.Omega.{arith}
-use borrow.Author.Rules.{rules}
 use Rattle.uses.proofs.uses.word.Goals as goal
 
 pub returns-else-i-room : goal.returns-else-i-room

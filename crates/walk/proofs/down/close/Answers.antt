@@ -1,6 +1,5 @@
 -- `close` meets its contract.
 use native.Mathlib.Omega.{arith}
-use borrow.Author.Rules.{rules}
 use Rattle.walk.proofs.down.close.Goals as goal
 
 pub returns-then-size-next : goal.returns-then-size-next

@@ -2,7 +2,6 @@
 use Rattle.packet.specs.Table.{rank}
 use Rattle.packet.specs.declared.Word.TheVariants as W
 use Rattle.enter.proofs.EnterLaws.{node-word, no_node}
-use borrow.Author.Rules.{rules}
 use Rattle.walk.proofs.down.enter.Goals as goal
 
 pub returns-then-word-eq4 : goal.returns-then-word-eq4

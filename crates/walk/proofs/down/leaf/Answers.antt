@@ -1,6 +1,5 @@
 -- `leaf` meets its contract.
 use native.Mathlib.Omega.{arith}
-use borrow.Author.Rules.{rules}
 use Rattle.walk.proofs.down.leaf.Goals as goal
 
 pub returns-then-size-next : goal.returns-then-size-next
