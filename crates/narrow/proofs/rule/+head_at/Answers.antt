@@ -1,4 +1,5 @@
 -- `head_at` of src/rule.rt meets its contract: the nesting that is left falls. Assumes nothing.
+use borrow.Enum.Refused.{opened}
 use mathlib.Core.Path.{refl}
 use Rattle.packet.specs.declared.Kind.TheVariants as K
 use Rattle.packet.specs.Table.{rows, rank}
@@ -32,4 +33,4 @@ returns-in-All t c = let x = c.args in
 pub returns-in_default : goal.returns-in_default
 unfolding rows rank
 returns-in_default t c = let x = c.args in
-    head-other x.s.now x.at x.nest c.part-t.ensures c.word_at.ensures (no_row K.Clause c.word_at.result c.in_default.in_default-own.keys5 refl)
+    head-other x.s.now x.at x.nest c.part-t.ensures c.word_at.ensures (no_row K.Clause c.word_at.result (opened c.in_default.in_default-own.keys5) refl)

@@ -1,4 +1,5 @@
 -- The cycle of calls of src/provable.rt meets its contracts: the search of a goal, over the clauses at hand, through one clause, and of its body with one less. Assumes nothing.
+use borrow.Enum.Refused.{opened}
 use native.Mathlib.Omega.{arith}
 use borrow.Author.Rules.{rules}
 use Prim.Native.Nat.{ℕ, ◌+◌, ◌-◌, ◌*◌, ◌≤◌, ◌<◌}
@@ -212,7 +213,7 @@ look-shape_of-room-in_default t c = c.ask.auto.room
 pub look-returns-in_default : goal.look-returns-in_default
 unfolding rank
 look-returns-in_default t c = let k = c.word_there.result in
-    filling.look-other k c.word_there.ensures (filling.other_word k W.And (0 ∷ 1 ∷ 2 ∷ 4 ∷ 6 ∷ 7 ∷ 8 ∷ 9 ∷ 10 ∷ 11 ∷ 12 ∷ 13 ∷ 14 ∷ 15 ∷ []) (tag-rank k) c.in_default.in_default-own.keys3 refl) c.ask.ensures
+    filling.look-other k c.word_there.ensures (filling.other_word k W.And (0 ∷ 1 ∷ 2 ∷ 4 ∷ 6 ∷ 7 ∷ 8 ∷ 9 ∷ 10 ∷ 11 ∷ 12 ∷ 13 ∷ 14 ∷ 15 ∷ []) (tag-rank k) (opened c.in_default.in_default-own.keys3) refl) c.ask.ensures
 
 pub look_and-returns-then-height-eq0 : goal.look_and-returns-then-height-eq0
 look_and-returns-then-height-eq0 t c = filling.both-flat c.args.height c.if-height-eq0.true
@@ -303,7 +304,7 @@ pub prove_goal-returns-in_default : goal.prove_goal-returns-in_default
 unfolding rows rank
 prove_goal-returns-in_default t c =
     let k = c.word_there.result in
-    laws.by-other c.args.height k c.word_there.ensures (no_row K.Goal k c.in_default.in_default-own.keys8 refl)
+    laws.by-other c.args.height k c.word_there.ensures (no_row K.Goal k (opened c.in_default.in_default-own.keys8) refl)
 
 pub prove_or-returns-in_default : goal.prove_or-returns-in_default
 prove_or-returns-in_default t c = laws.either-lost c.past_part.ensures c.in_default.is
@@ -401,7 +402,7 @@ unfolding rank
 through-returns-in_default t c =
     let k = c.word_there.result in
     let others : List ℕ = 0 ∷ 1 ∷ 2 ∷ 3 ∷ 4 ∷ 6 ∷ 7 ∷ 9 ∷ 10 ∷ 11 ∷ 12 ∷ 13 ∷ 14 ∷ 15 ∷ [] in
-    (filling.no-path c.args.nest k c.word_there.ensures (filling.other_word k W.And others (tag-rank k) c.in_default.in_default-own.keys3 refl) (filling.other_word k W.All others (tag-rank k) c.in_default.in_default-own.keys3 refl) c.parts_of-p.ensures c.if-p.false, locating.located-no)
+    (filling.no-path c.args.nest k c.word_there.ensures (filling.other_word k W.And others (tag-rank k) (opened c.in_default.in_default-own.keys3) refl) (filling.other_word k W.All others (tag-rank k) (opened c.in_default.in_default-own.keys3) refl) c.parts_of-p.ensures c.if-p.false, locating.located-no)
 
 pub through_with-returns-then-not-may_use : goal.through_with-returns-then-not-may_use
 through_with-returns-then-not-may_use t c = passing.with-barred c.args.i c.args.nest c.may_use.result c.may_use.ensures (not-true c.may_use.result c.if-not-may_use.true-raw)

@@ -1,4 +1,5 @@
 -- `is_fact` meets its contract.
+use borrow.Enum.Refused.{opened}
 use mathlib.Core.Path.{refl}
 use mathlib.Core.List.{[], ◌∷◌}
 use borrow.Author.Rules.{rules}
@@ -15,4 +16,4 @@ returns-in-Atom c = fact-word (fact-at c.args.room.now c.args.k c.plus.ensures c
 pub returns-in_default : goal.returns-in_default
 unfolding rank
 returns-in_default c = let w = c.word_at.result in
-    no-fact-word (fact-at c.args.room.now c.args.k c.plus.ensures c.word-at.ensures c.plus-2.ensures) c.word_at.ensures (other_word w W.Atom (0 ∷ 1 ∷ 2 ∷ 4 ∷ 5 ∷ 6 ∷ 7 ∷ 8 ∷ 9 ∷ 10 ∷ 11 ∷ 12 ∷ 13 ∷ 14 ∷ 15 ∷ []) (tag-rank w) c.in_default.in_default-own.keys2 refl)
+    no-fact-word (fact-at c.args.room.now c.args.k c.plus.ensures c.word-at.ensures c.plus-2.ensures) c.word_at.ensures (other_word w W.Atom (0 ∷ 1 ∷ 2 ∷ 4 ∷ 5 ∷ 6 ∷ 7 ∷ 8 ∷ 9 ∷ 10 ∷ 11 ∷ 12 ∷ 13 ∷ 14 ∷ 15 ∷ []) (tag-rank w) (opened c.in_default.in_default-own.keys2) refl)

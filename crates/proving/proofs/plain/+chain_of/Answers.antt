@@ -1,4 +1,5 @@
 -- `chain_of` of src/plain.rt meets its contract. Assumes nothing.
+use borrow.Enum.Refused.{opened}
 use borrow.Author.Rules.{rules}
 use Prim.Native.Nat.{ℕ, ◌<◌}
 use mathlib.Core.Path.{refl}
@@ -19,4 +20,4 @@ returns-in-Some t c = chain_more c.word_there.result c.if-nest-eq0.false c.word_
 pub returns-in_default : goal.returns-in_default
 unfolding rank
 returns-in_default t c = let k = c.word_there.result in
-    chain-end k c.word_there.ensures (other_word k W.Some (0 ∷ 1 ∷ 2 ∷ 3 ∷ 4 ∷ 5 ∷ 6 ∷ 8 ∷ 9 ∷ 10 ∷ 11 ∷ 12 ∷ 13 ∷ 14 ∷ 15 ∷ []) (tag-rank k) c.in_default.in_default-own.keys2 refl) c.inside-in_default.ensures
+    chain-end k c.word_there.ensures (other_word k W.Some (0 ∷ 1 ∷ 2 ∷ 3 ∷ 4 ∷ 5 ∷ 6 ∷ 8 ∷ 9 ∷ 10 ∷ 11 ∷ 12 ∷ 13 ∷ 14 ∷ 15 ∷ []) (tag-rank k) (opened c.in_default.in_default-own.keys2) refl) c.inside-in_default.ensures

@@ -1,4 +1,5 @@
 -- `parts_from` of src/plain.rt meets its contract. Assumes nothing.
+use borrow.Enum.Refused.{opened}
 use Rattle.proving.proofs.PartsLaws.{parts-no-nest, parts-other, parts-atom, parts-lost, parts-imp, parts_all}
 use borrow.Author.Rules.{rules}
 use Prim.Native.Nat.{ℕ, ◌<◌}
@@ -20,4 +21,4 @@ pub returns-in-All : goal.returns-in-All
 returns-in-All t c = parts_all c.word_there.result c.if-nest-eq0.false c.word_there.ensures c.in-All.is c.deeper.ensures c.plus.ensures c.parts_from.ensures
 
 pub returns-in_default : goal.returns-in_default
-returns-in_default t c = parts-other c.word_there.result c.word_there.ensures c.in_default.in_default-own.keys4 c.no_parts-in_default.ensures
+returns-in_default t c = parts-other c.word_there.result c.word_there.ensures (opened c.in_default.in_default-own.keys4) c.no_parts-in_default.ensures

@@ -1,4 +1,5 @@
 -- The cycle of calls of src/write.rt meets its contracts: the first strip of a goal, of its parts, along the path through a clause and of its body with one less. Assumes nothing.
+use borrow.Enum.Refused.{opened}
 use mathlib.Core.Path.{refl, ap, ◌∙◌}
 use lib.ListN.{length, set}
 use borrow.Rule.Slice.PartMut.{put_mid}
@@ -133,7 +134,7 @@ write_goal-returns-in-Imp t c = let x = c.args in
 pub write_goal-returns-in_default : goal.write_goal-returns-in_default
 unfolding rows rank
 write_goal-returns-in_default t c = let k = c.word_there.result in
-    writing.by-other c.args.height k c.word_there.ensures (no_row K.Goal k c.in_default.in_default-own.keys8 refl)
+    writing.by-other c.args.height k c.word_there.ensures (no_row K.Goal k (opened c.in_default.in_default-own.keys8) refl)
 
 pub write_path-returns-then-nest-eq0 : goal.write_path-returns-then-nest-eq0
 write_path-returns-then-nest-eq0 t c = pathing.no-nest c.args.nest c.if-nest-eq0.true
@@ -157,7 +158,7 @@ write_path-returns-in-All t c = let x = c.args in
 pub write_path-returns-in_default : goal.write_path-returns-in_default
 unfolding rows rank
 write_path-returns-in_default t c = let k = c.word_there.result in
-    pathing.by-other c.args.nest k c.word_there.ensures (no_row K.Clause k c.in_default.in_default-own.keys5 refl)
+    pathing.by-other c.args.nest k c.word_there.ensures (no_row K.Clause k (opened c.in_default.in_default-own.keys5) refl)
 
 pub write_some-write_goal-requires : goal.write_some-write_goal-requires
 write_some-write_goal-requires t c = (omega (arith, c.decreases), tt)
