@@ -116,11 +116,18 @@ fn cases(out: &impl Print, s: &[u8]) {
     }
 }
 
+// Bytes for a file.
+fn blank() -> [u8; 524288]
+    ensures { 524288 ≡ length result }
+{
+    [0; 524288]
+}
+
 fn the_cases(rt: &(impl Files + Print)) {
     let Ok(file) = fs::open(rt, "cases") else {
         return;
     };
-    let mut room = [0u8; 524288];
+    let mut room = blank();
     let n = load(file, &mut room);
     cases(rt, &room[..n]);
 }
@@ -129,7 +136,7 @@ fn the_file(rt: &(impl Files + Print)) {
     let Ok(file) = fs::open(rt, "file.sx") else {
         return;
     };
-    let mut room = [0u8; 524288];
+    let mut room = blank();
     let n = load(file, &mut room);
     show(rt, sexp::canonical(&room[..n], 64));
 }
