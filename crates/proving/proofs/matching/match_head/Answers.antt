@@ -42,7 +42,7 @@ shape_of-room-then-is_never c = c.match_term-l.auto.room ∙ c.loop-s.invariant.
 pub returns-then-is_never : goal.returns-then-is_never
 returns-then-is_never c = let x = c.args in
     let l = c.loop-s in
-    settle-lost {f = files_of x.rules.now x.goal.now x.terms.now} {room = x.room.now} {w = x.w} {p = x.p} c.part-s.ensures c.part-t.ensures {now = l.room} l.i l.j l.invariant.1 {sure = l.sure} l.invariant.2 {after = c.match_term-l.last.1.1.1.0} c.closes.ensures (not-true c.closes.result c.loop-s-test.true-raw) c.closes-in-loop-s.ensures c.if-closes.false c.further.ensures c.further-in-loop-s.ensures c.match_term-l.ensures (sym c.is_never.ensures ∙ c.if-is_never.true)
+    settle-lost {f = files_of x.rules.now x.goal.now x.terms.now} {room = x.room.now} {w = x.w} {p = x.p} c.part-s.ensures c.part-t.ensures {now = l.room} l.i l.j l.invariant.1 {sure = l.sure} l.invariant.2 {after = c.match_term-l.new.room} c.closes.ensures (not-true c.closes.result c.loop-s-test.true-raw) c.closes-in-loop-s.ensures c.if-closes.false c.further.ensures c.further-in-loop-s.ensures c.match_term-l.ensures (sym c.is_never.ensures ∙ c.if-is_never.true)
 
 pub shape_of-room-in_default-past : goal.shape_of-room-in_default-past
 shape_of-room-in_default-past c = c.match_term-l.auto.room ∙ c.loop-s.invariant.0
@@ -50,7 +50,7 @@ shape_of-room-in_default-past c = c.match_term-l.auto.room ∙ c.loop-s.invarian
 pub returns-in_default-past : goal.returns-in_default-past
 returns-in_default-past c = let x = c.args in
     let l = c.loop-s in
-    settle-stops {f = files_of x.rules.now x.goal.now x.terms.now} {room = x.room.now} {w = x.w} {p = x.p} c.part-s.ensures c.part-t.ensures {now = l.room} l.i l.j l.invariant.1 {sure = l.sure} l.invariant.2 {after = c.match_term-l.last.1.1.1.0} c.closes.ensures (not-true c.closes.result c.loop-s-test.true-raw) c.closes-in-loop-s.ensures c.if-closes.false c.further.ensures c.further-in-loop-s.ensures c.match_term-l.ensures (sym c.is_never.ensures ∙ c.if-is_never.false)
+    settle-stops {f = files_of x.rules.now x.goal.now x.terms.now} {room = x.room.now} {w = x.w} {p = x.p} c.part-s.ensures c.part-t.ensures {now = l.room} l.i l.j l.invariant.1 {sure = l.sure} l.invariant.2 {after = c.match_term-l.new.room} c.closes.ensures (not-true c.closes.result c.loop-s-test.true-raw) c.closes-in-loop-s.ensures c.if-closes.false c.further.ensures c.further-in-loop-s.ensures c.match_term-l.ensures (sym c.is_never.ensures ∙ c.if-is_never.false)
 
 pub shape_of-room-in_default-past-2 : goal.shape_of-room-in_default-past-2
 shape_of-room-in_default-past-2 c = c.match_term-l.auto.room ∙ c.loop-s.invariant.0
@@ -58,7 +58,7 @@ shape_of-room-in_default-past-2 c = c.match_term-l.auto.room ∙ c.loop-s.invari
 pub returns-in_default-past-2 : goal.returns-in_default-past-2
 returns-in_default-past-2 c = let x = c.args in
     let l = c.loop-s in
-    settle-stops {f = files_of x.rules.now x.goal.now x.terms.now} {room = x.room.now} {w = x.w} {p = x.p} c.part-s.ensures c.part-t.ensures {now = l.room} l.i l.j l.invariant.1 {sure = l.sure} l.invariant.2 {after = c.match_term-l.last.1.1.1.0} c.closes.ensures (not-true c.closes.result c.loop-s-test.true-raw) c.closes-in-loop-s.ensures c.if-closes.false c.further.ensures c.further-in-loop-s.ensures c.match_term-l.ensures (sym c.is_never.ensures ∙ c.if-is_never.false)
+    settle-stops {f = files_of x.rules.now x.goal.now x.terms.now} {room = x.room.now} {w = x.w} {p = x.p} c.part-s.ensures c.part-t.ensures {now = l.room} l.i l.j l.invariant.1 {sure = l.sure} l.invariant.2 {after = c.match_term-l.new.room} c.closes.ensures (not-true c.closes.result c.loop-s-test.true-raw) c.closes-in-loop-s.ensures c.if-closes.false c.further.ensures c.further-in-loop-s.ensures c.match_term-l.ensures (sym c.is_never.ensures ∙ c.if-is_never.false)
 
 pub loop-s-smaller : goal.loop-s-smaller
 loop-s-smaller c = let h = past-on c.part-s.result.now c.loop-s.i 64 c.in-Next-past.is c.past-in-loop-s.ensures in
@@ -69,7 +69,7 @@ loop-s-preserved c = let x = c.args in
     let f = files_of x.rules.now x.goal.now x.terms.now in
     let l = c.loop-s in
     let going = not-true c.closes.result c.loop-s-test.true-raw in
-    (c.match_term-l.auto.room ∙ l.invariant.0, left-next f x.room.now x.p.head x.w.goal c.part-s.ensures c.part-t.ensures l.i l.j l.invariant.1 c.closes.ensures going c.closes-in-loop-s.ensures c.if-closes.false c.in-Next-past.is c.past-in-loop-s.ensures c.in-Next-past-2.is c.past-in-loop-s-2.ensures, settle-next {f = f} {room = x.room.now} {w = x.w} {p = x.p} c.part-s.ensures c.part-t.ensures {now = l.room} l.i l.j l.invariant.1 {sure = l.sure} l.invariant.2 {after = c.match_term-l.last.1.1.1.0} c.closes.ensures going c.closes-in-loop-s.ensures c.if-closes.false c.further.ensures c.further-in-loop-s.ensures c.match_term-l.ensures (sym c.is_never.ensures ∙ c.if-is_never.false) c.still-sure.ensures c.in-Next-past.is c.past-in-loop-s.ensures c.in-Next-past-2.is c.past-in-loop-s-2.ensures)
+    (c.match_term-l.auto.room ∙ l.invariant.0, left-next f x.room.now x.p.head x.w.goal c.part-s.ensures c.part-t.ensures l.i l.j l.invariant.1 c.closes.ensures going c.closes-in-loop-s.ensures c.if-closes.false c.in-Next-past.is c.past-in-loop-s.ensures c.in-Next-past-2.is c.past-in-loop-s-2.ensures, settle-next {f = f} {room = x.room.now} {w = x.w} {p = x.p} c.part-s.ensures c.part-t.ensures {now = l.room} l.i l.j l.invariant.1 {sure = l.sure} l.invariant.2 {after = c.match_term-l.new.room} c.closes.ensures going c.closes-in-loop-s.ensures c.if-closes.false c.further.ensures c.further-in-loop-s.ensures c.match_term-l.ensures (sym c.is_never.ensures ∙ c.if-is_never.false) c.still-sure.ensures c.in-Next-past.is c.past-in-loop-s.ensures c.in-Next-past-2.is c.past-in-loop-s-2.ensures)
 
 pub shape_of-room : goal.shape_of-room
 shape_of-room c = c.loop-s.invariant.0
