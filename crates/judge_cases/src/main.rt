@@ -1,35 +1,37 @@
 // Judges every packet of four files of judge cases (second/README.md: four files, each a string) and prints one line for each. The cases and the lines that are
 // expected come from the second program alone.
 #![tactic(auto)]
-ghost use Rattle.std.specs.Prelude.{◌<◌, ◌≤◌, length};
+
+ghost use Rattle.std.specs.Prelude.{◌≡◌, ◌<◌, ◌≤◌, length};
 
 use judge::Verdict;
 use programs::{load, say, say_number, say_refused, string};
+use std::io;
 
-fn show(v: Verdict) {
+fn show(out: &impl Print, v: Verdict) {
     match v {
         Verdict::Accepted { height, nodes } => {
-            say(b"accepted");
-            say_number(height as u64);
-            say_number(nodes as u64);
+            say(out, b"accepted");
+            say_number(out, height as u64);
+            say_number(out, nodes as u64);
         }
         Verdict::Refused {
             reason,
             file,
             place,
-        } => say_refused(reason, file, place),
+        } => say_refused(out, reason, file, place),
     }
-    say(b"\n");
+    say(out, b"\n");
 }
 
 // Judges one packet with a room of its own.
-fn judged<'a>(rules: &'a [u8], goal: &'a [u8], terms: &'a [u8], strip: &'a [u8]) {
+fn judged<'a>(out: &impl Print, rules: &'a [u8], goal: &'a [u8], terms: &'a [u8], strip: &'a [u8]) {
     let mut room = [0u32; 8192];
-    show(judge::judge(rules, goal, terms, strip, &mut room));
+    show(out, judge::judge(rules, goal, terms, strip, &mut room));
 }
 
 // Judges the case at an offset, and answers where the next one starts.
-fn case(s: &[u8], at: usize) -> usize
+fn case(out: &impl Print, s: &[u8], at: usize) -> usize
     requires { at < length s.now }
     ensures { at ≤ result }
 {
@@ -45,14 +47,14 @@ fn case(s: &[u8], at: usize) -> usize
     let strip = string(s, g);
     let h = strip.from;
     let i = strip.to;
-    judged(&s[b..c], &s[d..e], &s[f..g], &s[h..i]);
+    judged(out, &s[b..c], &s[d..e], &s[f..g], &s[h..i]);
     i
 }
 
-fn cases(s: &[u8]) {
+fn cases(out: &impl Print, s: &[u8]) {
     let mut at = 0;
     while at < s.len() {
-        let next = case(s, at);
+        let next = case(out, s, at);
         if next <= at {
             return;
         }
@@ -60,14 +62,22 @@ fn cases(s: &[u8]) {
     }
 }
 
-fn main() {
-    let mut buf = [0u8; 393216];
-    let k = load(b"cases1", &mut buf);
-    cases(&buf[..k]);
-    let l = load(b"cases2", &mut buf);
-    cases(&buf[..l]);
-    let m = load(b"cases3", &mut buf);
-    cases(&buf[..m]);
-    let n = load(b"cases4", &mut buf);
-    cases(&buf[..n]);
+// Bytes for a file.
+fn blank() -> [u8; 393216]
+    ensures { 393216 ≡ length result }
+{
+    [0; 393216]
+}
+
+fn main(rt: HostRuntime) -> io::Result<()> {
+    let mut buf = blank();
+    let k = load(&rt, b"cases1", &mut buf)?;
+    cases(&rt, &buf[..k]);
+    let l = load(&rt, b"cases2", &mut buf)?;
+    cases(&rt, &buf[..l]);
+    let m = load(&rt, b"cases3", &mut buf)?;
+    cases(&rt, &buf[..m]);
+    let n = load(&rt, b"cases4", &mut buf)?;
+    cases(&rt, &buf[..n]);
+    Ok(())
 }

@@ -1,34 +1,36 @@
 // Reads every packet of two files of packet cases (second/README.md: how many files are read, and four files, each a string) and prints one line for each. The
 // cases and the lines that are expected come from the second program alone.
 #![tactic(auto)]
-ghost use Rattle.std.specs.Prelude.{◌<◌, ◌≤◌, length};
+
+ghost use Rattle.std.specs.Prelude.{◌≡◌, ◌<◌, ◌≤◌, length};
 
 use programs::{load, say, say_number, say_refused, string};
 use reader::Read;
+use std::io;
 
-fn show(p: Read) {
+fn show(out: &impl Print, p: Read) {
     match p {
         Read::Sound(rules, candidates) => {
-            say(b"sound");
-            say_number(rules as u64);
-            say_number(candidates as u64);
+            say(out, b"sound");
+            say_number(out, rules as u64);
+            say_number(out, candidates as u64);
         }
-        Read::Refused(why, file, at) => say_refused(why, file, at),
+        Read::Refused(why, file, at) => say_refused(out, why, file, at),
     }
-    say(b"\n");
+    say(out, b"\n");
 }
 
 // Reads the four files of a case, or three, and shows the answer.
-fn packet(three: bool, rules: &[u8], goal: &[u8], terms: &[u8], strip: &[u8]) {
+fn packet(out: &impl Print, three: bool, rules: &[u8], goal: &[u8], terms: &[u8], strip: &[u8]) {
     if three {
-        show(reader::read_books(rules, goal, terms));
+        show(out, reader::read_books(rules, goal, terms));
         return;
     }
-    show(reader::read_packet(rules, goal, terms, strip));
+    show(out, reader::read_packet(rules, goal, terms, strip));
 }
 
 // Reads the case at an offset, and answers where the next one starts.
-fn case(s: &[u8], at: usize) -> usize
+fn case(out: &impl Print, s: &[u8], at: usize) -> usize
     requires { at < length s.now }
     ensures { at ≤ result }
 {
@@ -47,14 +49,14 @@ fn case(s: &[u8], at: usize) -> usize
     let h = strip.from;
     let i = strip.to;
     let three = sexp::is_word(s, at, b"3");
-    packet(three, &s[b..c], &s[d..e], &s[f..g], &s[h..i]);
+    packet(out, three, &s[b..c], &s[d..e], &s[f..g], &s[h..i]);
     i
 }
 
-fn cases(s: &[u8]) {
+fn cases(out: &impl Print, s: &[u8]) {
     let mut at = 0;
     while at < s.len() {
-        let next = case(s, at);
+        let next = case(out, s, at);
         if next <= at {
             return;
         }
@@ -62,10 +64,18 @@ fn cases(s: &[u8]) {
     }
 }
 
-fn main() {
-    let mut room = [0u8; 655360];
-    let n = load(b"cases1", &mut room);
-    cases(&room[..n]);
-    let m = load(b"cases2", &mut room);
-    cases(&room[..m]);
+// Bytes for a file.
+fn blank() -> [u8; 655360]
+    ensures { 655360 ≡ length result }
+{
+    [0; 655360]
+}
+
+fn main(rt: HostRuntime) -> io::Result<()> {
+    let mut room = blank();
+    let n = load(&rt, b"cases1", &mut room)?;
+    cases(&rt, &room[..n]);
+    let m = load(&rt, b"cases2", &mut room)?;
+    cases(&rt, &room[..m]);
+    Ok(())
 }

@@ -2,12 +2,15 @@
 // file, whose names the search's numbers do not tell apart (docs/LANDINGS.md, Three), in rooms of three lengths. What is found is judged as well; a line says more than is expected if
 // it is not accepted, with the same height and nodes, or if the room is not zero afterwards. The cases and the lines that are expected come from the second program alone.
 #![tactic(auto)]
+
 ghost use Rattle.std.specs.Prelude.{◌≡◌, ◌<◌, ◌≤◌, length};
 
 use judge::Verdict;
 use programs::{load, number, say, say_number, say_refused, string};
 use proposal::Proposal;
 use sexp::Value;
+use std::io;
+use std::rt::Files;
 
 // Whether the checker accepts a strip with this height and these nodes.
 fn accepted<'a>(
@@ -27,6 +30,7 @@ fn accepted<'a>(
 
 // Prints the strip that was found, and more if it is not accepted.
 fn found<'a>(
+    out: &impl Print,
     rules: &'a [u8],
     goal: &'a [u8],
     terms: &'a [u8],
@@ -34,14 +38,14 @@ fn found<'a>(
     height: usize,
     nodes: usize,
 ) {
-    say(b"found");
-    say_number(height as u64);
-    say_number(nodes as u64);
-    say_number(strip.len() as u64);
-    say(b" ");
-    say(strip);
+    say(out, b"found");
+    say_number(out, height as u64);
+    say_number(out, nodes as u64);
+    say_number(out, strip.len() as u64);
+    say(out, b" ");
+    say(out, strip);
     if !accepted(rules, goal, terms, strip, height, nodes) {
-        say(b" which is not accepted");
+        say(out, b" which is not accepted");
     }
 }
 
@@ -59,6 +63,7 @@ fn zero(room: &[u32]) -> bool {
 
 // Searches with a buffer in a room, and prints the answer, and more if the room is not zero afterwards.
 fn searched<'a>(
+    out: &impl Print,
     rules: &'a [u8],
     goal: &'a [u8],
     terms: &'a [u8],
@@ -71,17 +76,17 @@ fn searched<'a>(
             height,
             nodes,
             length,
-        } => found(rules, goal, terms, &strip[..length], height, nodes),
+        } => found(out, rules, goal, terms, &strip[..length], height, nodes),
         Proposal::Refused {
             reason,
             file,
             place,
-        } => say_refused(reason, file, place),
+        } => say_refused(out, reason, file, place),
     }
     if !zero(room) {
-        say(b" and leaves a room that is not zero");
+        say(out, b" and leaves a room that is not zero");
     }
-    say(b"\n");
+    say(out, b"\n");
 }
 
 // Bytes for a strip, as many as the largest size that is asked for.
@@ -93,6 +98,7 @@ fn blank() -> [u8; 20000]
 
 // The same where height and size are given as words.
 fn asked<'a>(
+    out: &impl Print,
     rules: &'a [u8],
     goal: &'a [u8],
     terms: &'a [u8],
@@ -101,23 +107,23 @@ fn asked<'a>(
     room: &mut [u32],
 ) {
     match height {
-        Value::Nothing => say(b"no height\n"),
+        Value::Nothing => say(out, b"no height\n"),
         Value::Is(high) => match size {
-            Value::Nothing => say(b"no size\n"),
+            Value::Nothing => say(out, b"no size\n"),
             Value::Is(n) => {
                 if 20000 < n {
-                    say(b"too large a size\n");
+                    say(out, b"too large a size\n");
                     return;
                 }
                 let mut strip = blank();
-                searched(rules, goal, terms, high, &mut strip[..n], room);
+                searched(out, rules, goal, terms, high, &mut strip[..n], room);
             }
         },
     }
 }
 
 // Searches for the case at an offset, and answers where the next one starts.
-fn case(s: &[u8], at: usize, room: &mut [u32]) -> usize
+fn case(out: &impl Print, s: &[u8], at: usize, room: &mut [u32]) -> usize
     requires { at < length s.now }
     ensures { at ≤ result }
 {
@@ -137,6 +143,7 @@ fn case(s: &[u8], at: usize, room: &mut [u32]) -> usize
     let j = size.from;
     let k = size.to;
     asked(
+        out,
         &s[b..c],
         &s[d..e],
         &s[f..g],
@@ -148,10 +155,10 @@ fn case(s: &[u8], at: usize, room: &mut [u32]) -> usize
 }
 
 // Searches for all cases of a file in one room.
-fn cases(s: &[u8], room: &mut [u32]) {
+fn cases(out: &impl Print, s: &[u8], room: &mut [u32]) {
     let mut at = 0;
     while at < s.len() {
-        let next = case(s, at, room);
+        let next = case(out, s, at, room);
         if next <= at {
             return;
         }
@@ -160,34 +167,47 @@ fn cases(s: &[u8], room: &mut [u32]) {
 }
 
 // Searches for all cases of a file that is named.
-fn part(name: &[u8], buf: &mut [u8], room: &mut [u32]) {
-    let n = load(name, buf);
-    cases(&buf[..n], room);
+fn part(
+    rt: &(impl Files + Print),
+    name: &[u8],
+    buf: &mut [u8],
+    room: &mut [u32],
+) -> io::Result<()> {
+    let n = load(rt, name, buf)?;
+    cases(rt, &buf[..n], room);
+    Ok(())
 }
 
 // The same in the least room, in one of a word more, and in a long one.
-fn in_least(name: &[u8], buf: &mut [u8]) {
+fn in_least(rt: &(impl Files + Print), name: &[u8], buf: &mut [u8]) -> io::Result<()> {
     let mut room = [0u32; 8192];
-    part(name, buf, &mut room);
+    part(rt, name, buf, &mut room)
 }
 
-fn in_one_more(name: &[u8], buf: &mut [u8]) {
+fn in_one_more(rt: &(impl Files + Print), name: &[u8], buf: &mut [u8]) -> io::Result<()> {
     let mut room = [0u32; 8193];
-    part(name, buf, &mut room);
+    part(rt, name, buf, &mut room)
 }
 
-fn in_long(name: &[u8], buf: &mut [u8]) {
+fn in_long(rt: &(impl Files + Print), name: &[u8], buf: &mut [u8]) -> io::Result<()> {
     let mut room = [0u32; 100000];
-    part(name, buf, &mut room);
+    part(rt, name, buf, &mut room)
 }
 
-fn main() {
-    let mut buf = [0u8; 393216];
-    in_least(b"cases1", &mut buf);
-    in_least(b"cases2", &mut buf);
-    in_least(b"cases3", &mut buf);
-    in_least(b"cases4", &mut buf);
-    in_least(b"cases5", &mut buf);
-    in_one_more(b"cases5", &mut buf);
-    in_long(b"cases5", &mut buf);
+// Bytes for a file of cases.
+fn file_room() -> [u8; 393216]
+    ensures { 393216 ≡ length result }
+{
+    [0; 393216]
+}
+
+fn main(rt: HostRuntime) -> io::Result<()> {
+    let mut buf = file_room();
+    in_least(&rt, b"cases1", &mut buf)?;
+    in_least(&rt, b"cases2", &mut buf)?;
+    in_least(&rt, b"cases3", &mut buf)?;
+    in_least(&rt, b"cases4", &mut buf)?;
+    in_least(&rt, b"cases5", &mut buf)?;
+    in_one_more(&rt, b"cases5", &mut buf)?;
+    in_long(&rt, b"cases5", &mut buf)
 }
