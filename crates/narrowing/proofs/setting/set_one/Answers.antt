@@ -5,10 +5,6 @@ use Rattle.narrowing.proofs.SetLaws.{one_none, one_set}
 use borrow.Author.Rules.{rules}
 use Rattle.narrowing.proofs.setting.set_one.Goals as goal
 
--- LEFT
-sub-t17 : tie.Need-overflow-sub-t17
-sub-t17 c = search rules
-
 pub returns-then-n-eq0 : goal.returns-then-n-eq0
 returns-then-n-eq0 c = one_none
 
