@@ -417,7 +417,7 @@ try_all-loop-i-init t c = (omega arith, (refl, tried.from_start c.args.v c.candi
 pub try_all-loop-i-preserved-then-is_left_out : goal.try_all-loop-i-preserved-then-is_left_out
 try_all-loop-i-preserved-then-is_left_out t c = let l = c.loop-i in
     let s = c.is_left_out.ensures c.if-is_left_out.true in
-    (omega arith, (l.invariant.1.0, tried.from-skip c.args.v c.candidates-n.result l.i c.loop-i-test.true l.invariant.1.1 s.0 (sym (try-all-slice-aggregate-is-left-out t c)) s.1))
+    (omega arith, (l.invariant.1.0, tried.from-skip c.args.v c.candidates-n.result l.i c.loop-i-test.true l.invariant.1.1 s.0 c.narrow_body-narrowed.auto.marks s.1))
 
 pub try_all-try_one-requires : goal.try_all-try_one-requires
 try_all-try_one-requires t c = (omega (arith, c.decreases), tt)
