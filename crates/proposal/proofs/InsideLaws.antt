@@ -1,11 +1,9 @@
 -- A strip that is found lies inside its buffer: what a caller needs who takes the front of the buffer.
 use Prim.Native.Nat.{ℕ, ◌≤◌}
-use mathlib.Core.Path.{◌≡◌, refl, sym, ◌∙◌, ap, subst}
+use mathlib.Core.Path.{◌≡◌, refl, sym, ◌∙◌, ap}
 use mathlib.Core.List.{List}
 use native.Mathlib.Omega.{arith}
 use lib.ListN.{length}
-use Rattle.packet.specs.File.{most_bytes}
-use Rattle.drawing.specs.Spelled.{written}
 use Rattle.proposal.specs.declared.Proposal.{Proposal}
 use Rattle.proposal.specs.declared.Proposal.TheVariants as P
 use Rattle.proposal.specs.Proposed.{Comes, comes_to, proposal, proposal_of, Paper, paper, Proposes}

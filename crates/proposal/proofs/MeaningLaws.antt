@@ -10,7 +10,7 @@ use lib.Dec.{ltb, leb}
 use lib.ListN.{length}
 use borrow.Author.Tests.{ltb-true, ltb-false, leb-true, leb-false, lt-ltb, le-ltb, le-leb, lt-leb}
 use Rattle.basics.specs.Choice.{choose}
-use Rattle.harrop.specs.Formula.{Strip, height, nodes}
+use Rattle.harrop.specs.Formula.{Strip}
 use Rattle.harrop.specs.Search.{first_at}
 use Rattle.harrop.proofs.Finding.{nothing-found-no-proof, no-proof-nothing-found, found-is-the-first, the-first-is-found}
 use Rattle.packet.specs.declared.Reason.{Reason}
@@ -18,7 +18,7 @@ use Rattle.packet.specs.declared.Reason.TheVariants as R
 use Rattle.packet.specs.declared.File.{File}
 use Rattle.packet.specs.declared.File.TheVariants as F
 use Rattle.packet.specs.File.{most_bytes, Outcome, Books, books_of}
-use Rattle.packet.specs.Sound.{SoundBooks, RefusedBooks, BooksMean}
+use Rattle.packet.specs.Sound.{BooksMean}
 use Rattle.packet.proofs.PacketLaws.{books-told, books-only}
 use Rattle.room.specs.Layout.{words}
 use Rattle.drawing.specs.Spelled.{written}

@@ -16,7 +16,7 @@ use Rattle.packet.specs.declared.File.TheVariants as F
 use Rattle.packet.specs.File.{most_bytes, Books}
 use Rattle.drawing.specs.Spelled.{written}
 use Rattle.proposal.specs.Proposed.{Comes, comes_to, proposal, proposal_of, Paper, paper}
-use Rattle.proposal.specs.Meaning.{start, offered, Searched, TheFirst, Provable, Told, no_proof, too_long, wrote}
+use Rattle.proposal.specs.Meaning.{start, offered, Searched, TheFirst, Provable, no_proof, too_long, wrote}
 use Rattle.proposal.proofs.PaperLaws.{first_of, second_of, third_of, kind_of}
 use Rattle.proposal.proofs.MeaningLaws.{only-the-table's-is-the-answer}
 

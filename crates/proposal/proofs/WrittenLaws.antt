@@ -1,5 +1,5 @@
 -- What a search writes, the checker accepts: the bytes written, with the same rules, goal and terms, are a strip file that spells the strip found, which is a proof, with the height and nodes that the search told. And what is in the buffer then.
-use Prim.Native.Nat.{ℕ, ◌+◌, ◌≤◌}
+use Prim.Native.Nat.{ℕ, ◌≤◌}
 use mathlib.Core.Path.{◌≡◌, refl, sym, ◌∙◌, ap, ap₂, subst}
 use mathlib.Core.List.{List}
 use native.Mathlib.Omega.{arith}
