@@ -15,4 +15,4 @@ returns-then-not-has_numbers c = let k = c.both_keys-of.ensures in
     (laws.clause-found k.0 k.1 m.0, laws.clause-located k.0 k.1 m.1)
 
 pub returns : goal.returns
-returns c = (laws.clause-chosen c.args.left c.slot_for-at.ensures c.both_keys-of.ensures.1 c.chosen-k.false c.plus.ensures c.has_numbers.ensures (not-false _ c.if-not-has_numbers.false-raw) c.take.ensures, laws.chosen-located c.args.left c.slot_for-at.ensures c.both_keys-of.ensures.1 c.chosen-k.false c.plus.ensures c.has_numbers.ensures (not-false _ c.if-not-has_numbers.false-raw) c.take.ensures)
+returns c = (laws.clause-chosen c.args.left c.plus.ensures c.slot_for-at.ensures.1 c.if-k-eq0.false c.chosen-k.ensures c.has_numbers.ensures (not-false _ c.if-not-has_numbers.false-raw) c.take.ensures, laws.chosen-located c.args.left c.plus.ensures c.slot_for-at.ensures.1 c.if-k-eq0.false c.chosen-k.ensures c.has_numbers.ensures (not-false _ c.if-not-has_numbers.false-raw) c.take.ensures)
