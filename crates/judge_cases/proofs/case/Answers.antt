@@ -6,7 +6,7 @@ use borrow.Author.Rules.{rules}
 use Rattle.judge_cases.proofs.case.Goals as goal
 
 pub returns : goal.returns
-returns c =
+returns g c =
     let n = length c.args.s.now in
     let first = c.args.at in
     let h = c.requires in

@@ -6,4 +6,4 @@ use borrow.Author.Rules.{rules}
 use Rattle.search_cases.proofs.asked.Goals as goal
 
 pub slice_bounds-searched-end : goal.slice_bounds-searched-end
-slice_bounds-searched-end c = let e = c.blank-strip.ensures in let l = c.if-n-gt20000.false in sym (length-take-le c.in-Is-size.n c.blank-strip.result (omega arith))
+slice_bounds-searched-end g c = let e = c.blank-strip.ensures in let l = c.if-n-gt20000.false in sym (length-take-le c.in-Is-size.n c.blank-strip.result (omega arith))

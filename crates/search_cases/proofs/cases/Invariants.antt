@@ -6,7 +6,7 @@ use borrow.Author.Rules.{rules}
 use Rattle.search_cases.proofs.cases.Given as goal
 
 abbrev pub invariant-loop-at : goal.invariant-loop-at
-invariant-loop-at l = length l.room ≡ length l.initial.room
+invariant-loop-at g l = length l.room ≡ length l.initial.room
 
 abbrev pub decreases-loop-at : goal.decreases-loop-at
-decreases-loop-at l = length l.s - l.at
+decreases-loop-at g l = length l.s - l.at
