@@ -10,11 +10,11 @@ returns-then-longest-first c =
     too_long x.scratch.now x.strip.now x.first l.result l.ensures c.too_long.result c.if-longest-first.true c.too_long.ensures
 
 pub slice_bounds-put-end : goal.slice_bounds-put-end
-slice_bounds-put-end c = front-inside c.args.scratch.now c.args.first.at c.requires
+slice_bounds-put-end c = front-inside c.args.scratch.now c.args.first.at c.before.requires
 
 pub returns : goal.returns
 returns c =
     let x = c.args in
     let l = c.longest in
     let p = c.put in
-    strip-copied x.scratch.now x.strip.now x.first l.result l.ensures p.new.buf p.result c.if-longest-first.false c.requires p.ensures
+    strip-copied x.scratch.now x.strip.now x.first l.result l.ensures p.new.buf p.result c.if-longest-first.false c.before.requires p.ensures

@@ -20,11 +20,6 @@ use Rattle.writer.proofs.write.+path_all_path_and_write_all_write_body_write_bot
 }
 use Rattle.writer.proofs.write.+path_all_path_and_write_all_write_body_write_both_write_either_write_goal_write_path_write_some_write_under_write_use.Goals as goal
 
--- LEFT
--- src/write.rt:223:42
-write-all-cast-t18 : (t : ℕ) → write-all-lts.Need-overflow-cast-t18 (nothing-reads.Asked, nothing-reads.Learnt, push-reads.Asked, push-reads.Learnt, put_reads.Asked, put_reads.Learnt, cut-reads.Asked, cut-reads.Learnt, bound-reads.Asked, bound-reads.Learnt, write-goal-below t, write-goal.Post, behind-reads.Asked, behind-reads.Learnt, close-reads.Asked, close-reads.Learnt) (write-all-at t) write-all.Post
-write-all-cast-t18 t c = search rules
-
 pub path_all-shape_of-room : goal.path_all-shape_of-room
 path_all-shape_of-room t c = c.write_path.auto.room ∙ (c.push.auto.room ∙ c.number_through-i.auto.room)
 
