@@ -3,9 +3,9 @@
 #![tactic(auto)]
 
 use programs::{
-    argument, argument_count, give_name, load, put_aside, remove, say, say_number, say_numbers,
+    argument, argument_count, give_name, load, put_aside, say, say_number, say_numbers,
 };
-use std::io;
+use std::{fs, io};
 use tptp::Converted;
 
 fn usage(rt: &HostRuntime) {
@@ -27,7 +27,7 @@ fn both_aside<'a>(rt: &HostRuntime, rules: &'a [u8], goal: &'a [u8]) -> bool {
         return false;
     }
     if !put_aside(rt, &rt.stderr(), b"goal.sx.new", b"book: goal.sx.new", goal) {
-        remove(rt, b"rules.sx.new");
+        let _ = fs::remove_file(rt, "rules.sx.new");
         return false;
     }
     true
@@ -45,7 +45,7 @@ fn save<'a>(rt: &HostRuntime, rules: &'a [u8], goal: &'a [u8]) -> bool {
         b"rules.sx",
         b"book: rules.sx",
     ) {
-        remove(rt, b"goal.sx.new");
+        let _ = fs::remove_file(rt, "goal.sx.new");
         return false;
     }
     give_name(

@@ -12,7 +12,7 @@ ghost use Rattle.programs.specs.Counts.{IsPrefixLen};
 pub use arguments::{argument, argument_count};
 pub use cases::{Part, string};
 use packet::{File, Reason};
-pub use saved::{give_name, put_aside, remove};
+pub use saved::{give_name, put_aside};
 use std::io::{ErrorKind, Read};
 use std::rt::Files;
 use std::{fs, io};

@@ -57,15 +57,18 @@ pub fn put_aside(
     }
 }
 
-// Takes a file away, if it is there.
-pub fn remove(files: &impl Files, name: &[u8]) {
-    if let Ok(name) = as_text(name) {
-        let _ = fs::remove_file(files, name);
+// Gives a file another name, or leaves nothing of it.
+fn rename(files: &impl Files, aside: &[u8], name: &[u8]) -> io::Result<()> {
+    let aside = as_text(aside)?;
+    let renamed = rename_text(files, aside, name);
+    if renamed.is_err() {
+        let _ = fs::remove_file(files, aside);
     }
+    renamed
 }
 
-fn rename(files: &impl Files, from: &[u8], to: &[u8]) -> io::Result<()> {
-    fs::rename(files, as_text(from)?, as_text(to)?)
+fn rename_text(files: &impl Files, aside: &str, name: &[u8]) -> io::Result<()> {
+    fs::rename(files, aside, as_text(name)?)
 }
 
 // Gives a file its own name, whatever stood under that before. Whether that was done; if not, a line on standard error tells why, and nothing is left of the file.
@@ -80,7 +83,6 @@ pub fn give_name(
         Ok(()) => true,
         Err(why) => {
             tell(err, said, why);
-            remove(files, aside);
             false
         }
     }
