@@ -16,4 +16,4 @@ returns c =
     let x = c.args in
     let s = c.search_files-r in
     let k = c.clear in
-    proposed x.height x.rules.now x.goal.now x.terms.now x.strip.now s.new.room x.room.now s.result k.new.room c.if-room-lt8192.false s.ensures (k.ensures ∙ ap (λ (n : ℕ). replicate n 0) s.auto.room)
+    proposed x.height x.rules.now x.goal.now x.terms.now x.strip.now s.new.strip x.room.now s.result k.new.room c.if-room-lt8192.false s.ensures (k.ensures ∙ ap (λ (n : ℕ). replicate n 0) s.auto.room)

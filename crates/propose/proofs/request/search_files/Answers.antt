@@ -19,4 +19,4 @@ returns-in-Sound c =
     let x = c.args in
     let y = c.read_books in
     let s = c.search_goal in
-    files-read x.height x.rules.now x.goal.now x.terms.now x.room.now x.strip.now c.if-height-gt32.false y.result y.ensures s.new.room s.result c.in-Sound.is s.ensures
+    files-read x.height x.rules.now x.goal.now x.terms.now x.room.now x.strip.now c.if-height-gt32.false y.result y.ensures s.new.strip s.result c.in-Sound.is s.ensures

@@ -17,4 +17,4 @@ returns c =
     let t = c.set_out in
     let y = c.has_proof in
     let w = c.write in
-    some-found x.height x.rules.now x.goal.now x.terms.now x.room.now t.new.room y.new.room x.strip.now y.result t.ensures y.ensures w.new.room w.result (not-false y.result c.if-not-has_proof.false-raw) w.ensures
+    some-found x.height x.rules.now x.goal.now x.terms.now x.room.now t.new.room y.new.room x.strip.now y.result t.ensures y.ensures w.new.strip w.result (not-false y.result c.if-not-has_proof.false-raw) w.ensures
