@@ -2,6 +2,7 @@
 use Rattle.room.specs.Where.{files_of}
 use Rattle.narrow.proofs.MarkLaws.{adds-not}
 use Rattle.narrow.proofs.NarrowLaws.{rule-headless, rule-other, rule-fact}
+use native.Mathlib.Omega.{arith}
 use borrow.Author.Rules.{rules}
 use Rattle.narrow.proofs.facts.by_rule.Goals as goal
 
@@ -21,4 +22,4 @@ returns-then-word-eq0 c = adds-not c.args.marks.now
 pub returns : goal.returns
 returns c = let x = c.args in
     let f = files_of x.rules.now x.goal.now x.terms.now in
-    rule-fact f x.room.now x.x x.own x.v x.predicate x.asked x.k x.marks.now c.word-p.ensures c.if-p-eq0.false c.by_fact.result c.word.ensures c.if-word-eq0.false c.rule_spot-y-2.ensures c.word-kept.ensures c.by_fact.ensures
+    rule-fact f x.room.now x.x x.own x.v x.predicate x.asked x.k x.marks.now c.word-p.ensures c.if-p-eq0.false c.by_fact.result c.word.ensures (λ e. omega (arith, e)) c.rule_spot-y-2.ensures c.word-kept.ensures c.by_fact.ensures
