@@ -1,5 +1,6 @@
 // The desk for C and Rust to link (include/desk.h): judging and searching, the answer as numbers.
 #![tactic(auto)]
+
 ghost use Rattle.std.specs.Prelude.{◌≡◌, length};
 ghost use Rattle.room.specs.Start.{room_after};
 ghost use Rattle.judge.specs.Verdict.{paper, verdict_of};

@@ -1,5 +1,6 @@
 // The strip as it is drawn: which option is the first, what its nodes are written as, and the laws on both (document 01, "Which strip the search writes").
 #![tactic(auto)]
+
 mod first;
 mod put;
 

@@ -1,5 +1,6 @@
 // One number for each atom and each rule, so that a rule that cannot match is not visited (document 02, Three). Of a number nothing is believed but that different numbers are of different atoms.
 #![tactic(auto)]
+
 mod atom;
 mod chain;
 mod mix;

@@ -1,5 +1,6 @@
 // Which candidates a variable need be tried with, where an atom that it is an argument of can only be served by heads without variables (document 02, Three). The heads of rules are kept in the room.
 #![tactic(auto)]
+
 mod facts;
 mod kept;
 mod marks;

@@ -1,6 +1,7 @@
 // The words, the kinds and what may be due, the refusals and the files, as names, with the paper's numbers (document 01, "The carrier and the words", "What comes back").
 // What they mean is in specs/.
 #![tactic(auto)]
+
 ghost use Rattle.std.specs.Prelude.{◌≡◌};
 ghost use Rattle.packet.specs.Numbers.{reason_number, file_number};
 

@@ -1,5 +1,6 @@
 // The search: with rules, goal, terms and a height, the first strip within the height, or the word that there is none (document 01, "Which strip the search writes", "What comes back").
 #![tactic(auto)]
+
 mod request;
 
 ghost use Rattle.proposal.specs.Proposed.{Proposes};

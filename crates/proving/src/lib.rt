@@ -1,5 +1,6 @@
 // What it is for a search to be right of a goal, a clause and its frame, the laws on it, and the parts of a clause on the bytes (document 01, "Which strip the search writes"; document 02, Three).
 #![tactic(auto)]
+
 mod hand;
 mod matching;
 mod plain;

@@ -1,5 +1,6 @@
 // Words and files read from bytes (document 01, "The carrier and the words", "Sizes", "What comes back").
 #![tactic(auto)]
+
 mod bars;
 mod count;
 mod files;

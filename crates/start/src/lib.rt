@@ -1,5 +1,6 @@
 // The room when a walk starts and when all is said: the tables of rules and candidates, the root place, all words cleared (document 01, "When a strip fits", "What comes back").
 #![tactic(auto)]
+
 mod start;
 mod table;
 

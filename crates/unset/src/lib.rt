@@ -1,5 +1,6 @@
 // Frames in which some variables are not set yet: whether a head may still be an atom, which candidate the atom forces on a variable, and which variables of the two stand beside each other (document 02, Three).
 #![tactic(auto)]
+
 mod beside;
 mod head;
 
