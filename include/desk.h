@@ -1,4 +1,4 @@
-/* The permit desk for C: judging a strip and searching one, from crate `desk` (`rt staticlib desk` writes target/staticlib/libdesk.a, for x86-64).
+/* The permit desk for C: judging a strip and searching one, from crate `desk_c` (`tools/libdesk` writes target/staticlib/libdesk.a, for x86-64).
  *
  * A slice is a pointer and a count of its elements. No pointer is null, also where the count is 0. What is lent for writing overlaps nothing else that is lent, and nobody else
  * touches what is lent before the call returns. Files are the whole bytes of rules.sx, goal.sx, terms.sx and strip.sx; one over DESK_BYTES is refused, not cut.

@@ -5,7 +5,7 @@ cd "$(dirname "$0")/.."
 room=$(mktemp -d)
 trap 'rm -rf "$room"' EXIT
 wrong=0 asked=0
-rt staticlib desk > "$room/log" 2>&1 || { cat "$room/log"; exit 1; }
+tools/libdesk > "$room/log" 2>&1 || { cat "$room/log"; exit 1; }
 [ "$(uname -m)" = x86_64 ] || { echo 'the archive is for x86-64, and this machine is not: the examples are skipped'; exit 0; }
 
 # Asks the example all that packets/ asks; it prints a strip that is found after the line.

@@ -1,4 +1,4 @@
-// The desk for C and Rust to link (include/desk.h): judging and searching, the answer as numbers.
+// Judging and searching, the answer as numbers. Crate desk_c has the same to link from C and Rust (include/desk.h).
 #![tactic(auto)]
 
 ghost use Rattle.std.specs.Prelude.{◌≡◌, length};
@@ -11,8 +11,7 @@ use judge::Verdict;
 use proposal::Proposal;
 
 // Judges a strip.
-#[unsafe(no_mangle)]
-pub extern "C" fn desk_judge<'a>(
+pub fn desk_judge<'a>(
     rules: &'a [u8],
     goal: &'a [u8],
     terms: &'a [u8],
@@ -44,8 +43,7 @@ pub extern "C" fn desk_judge<'a>(
 }
 
 // Searches the first strip within a height.
-#[unsafe(no_mangle)]
-pub extern "C" fn desk_propose<'a>(
+pub fn desk_propose<'a>(
     rules: &'a [u8],
     goal: &'a [u8],
     terms: &'a [u8],
