@@ -7,7 +7,7 @@ use Rattle.proposal.proofs.InsideLaws.{found_inside}
 use Rattle.search.proofs.answer.Goals as goal
 
 pub slice_bounds-save-end : goal.slice_bounds-save-end
-slice_bounds-save-end c = let k = c.propose in let l = found_inside k.ensures c.in-Found.is in let e = k.auto.room in omega arith
+slice_bounds-save-end c = let k = c.propose in let l = found_inside k.ensures c.in-Found.is in let e = k.auto.strip in omega arith
 
 pub slice_bounds-save-end-in-Found : goal.slice_bounds-save-end-in-Found
-slice_bounds-save-end-in-Found c = let k = c.propose in let l = found_inside k.ensures c.in-Found.is in let e = k.auto.room in sym (length-take-le c.in-Found.length k.new.room (omega arith))
+slice_bounds-save-end-in-Found c = let k = c.propose in let l = found_inside k.ensures c.in-Found.is in let e = k.auto.strip in sym (length-take-le c.in-Found.length k.new.strip (omega arith))

@@ -7,7 +7,7 @@ use borrow.Author.Rules.{rules}
 use Rattle.search_cases.proofs.searched.Goals as goal
 
 pub slice_bounds-found-end : goal.slice_bounds-found-end
-slice_bounds-found-end g c = let k = c.propose in let l = found_inside k.ensures c.in-Found.is in let e = k.auto.room in omega arith
+slice_bounds-found-end g c = let k = c.propose in let l = found_inside k.ensures c.in-Found.is in let e = k.auto.strip in omega arith
 
 pub slice_bounds-found-end-in-Found : goal.slice_bounds-found-end-in-Found
-slice_bounds-found-end-in-Found g c = let k = c.propose in let l = found_inside k.ensures c.in-Found.is in let e = k.auto.room in sym (length-take-le c.in-Found.length k.new.room (omega arith))
+slice_bounds-found-end-in-Found g c = let k = c.propose in let l = found_inside k.ensures c.in-Found.is in let e = k.auto.strip in sym (length-take-le c.in-Found.length k.new.strip (omega arith))
