@@ -3,7 +3,7 @@ use Prim.Native.Nat.{ℕ, ◌+◌, ◌-◌, ◌*◌, ◌<◌, ◌≤◌, min}
 use mathlib.Core.Path.{◌≡◌, refl, sym, ap, ◌∙◌}
 use mathlib.Core.Bool.{Bool, true, false, ◌&&◌}
 use mathlib.Core.List.{List, [], ◌∷◌}
-use mathlib.Core.Option.{Option, none, some}
+use mathlib.Core.Option.{none, some}
 use native.Mathlib.Omega.{arith}
 use lib.Dec.{leb}
 use lib.ListN.{length, get_or, drop, drop_of_length-le}
@@ -12,7 +12,6 @@ use Rattle.basics.specs.Choice.{choose}
 use Rattle.sexp.specs.Decimal.{is_digit}
 use Rattle.sexp.specs.Number.{largest}
 use Rattle.sexp.specs.Words.{every, worth, worth_after}
-use Rattle.sexp.specs.declared.words.Value.{Value}
 use Rattle.sexp.specs.declared.words.Value.TheVariants as Vs
 use Rattle.sexp.proofs.DecimalLaws.{digit-is}
 use Rattle.sexp.proofs.NumberLaws.{drop_here}

@@ -4,7 +4,6 @@ use Rattle.sexp.specs.Strings.{Plain}
 use Rattle.sexp.proofs.OntoLaws.{spell-some}
 use Rattle.sexp.proofs.AnswerLaws.{plain-span, plain-inside}
 use native.Mathlib.Omega.{arith}
-use borrow.Author.Rules.{rules}
 use Rattle.carrier_cases.proofs.string.Goals as goal
 use Rattle.carrier_cases.proofs.string.Goals.{In-Span}
 

@@ -2,7 +2,6 @@
 use Rattle.programs.proofs.StringLaws.{no-string, a-string, string-inside}
 use Rattle.sexp.proofs.AnswerLaws.{plain-span}
 use native.Mathlib.Omega.{arith}
-use borrow.Author.Rules.{rules}
 use Rattle.programs.proofs.cases.string.Goals as goal
 
 pub overflow_add-result : goal.overflow_add-result

@@ -1,8 +1,6 @@
 -- `number` (src/word.rt): the octets before the present one are digits (`Reading`).
-use Prim.Native.Nat.{◌-◌}
-use lib.ListN.{length, get_or}
-use Rattle.programs.proofs.SaidLaws.{Reading, reading-start, reading-on, too-low, too-high, says_none, says_nothing, says-number}
-use borrow.Author.Rules.{rules}
+use lib.ListN.{get_or}
+use Rattle.programs.proofs.SaidLaws.{reading-start, reading-on, too-low, too-high, says_none, says_nothing, says-number}
 use Rattle.programs.proofs.word.number.Goals as goal
 
 pub returns-then-w-eq0 : goal.returns-then-w-eq0

@@ -1,7 +1,6 @@
 use Prim.Native.Nat.{◌-◌}
-use lib.ListN.{length, get_or}
-use Rattle.programs.proofs.SaidLaws.{Reading, reading-start, reading-on, too-low, too-high, says_none, says_nothing, says-number}
-use borrow.Author.Rules.{rules}
+use lib.ListN.{length}
+use Rattle.programs.proofs.SaidLaws.{Reading}
 use Rattle.programs.proofs.word.number.Given as goal
 
 abbrev pub invariant-loop-i : goal.invariant-loop-i
