@@ -2,6 +2,7 @@
 use Prim.Native.Nat.{ℕ}
 use mathlib.Core.Path.{◌∙◌, ap}
 use lib.ListN.{replicate}
+use native.Mathlib.Omega.{arith}
 use Rattle.propose.proofs.AnswerLaws.{short-of-room, proposed}
 use borrow.Author.Rules.{rules}
 use Rattle.propose.proofs.propose.Goals as goal
@@ -16,4 +17,4 @@ returns c =
     let x = c.args in
     let s = c.search_files-r in
     let k = c.clear in
-    proposed x.height x.rules.now x.goal.now x.terms.now x.strip.now s.new.strip x.room.now s.result k.new.room c.if-room-lt8192.false s.ensures (k.ensures ∙ ap (λ (n : ℕ). replicate n 0) s.auto.room)
+    proposed x.height x.rules.now x.goal.now x.terms.now x.strip.now s.new.strip x.room.now s.result k.new.room (omega arith) s.ensures (k.ensures ∙ ap (λ (n : ℕ). replicate n 0) s.auto.room)

@@ -1,4 +1,5 @@
 -- `search_files` of src/request.rt: the height, the files in turn, then the search.
+use native.Mathlib.Omega.{arith}
 use Rattle.propose.proofs.AnswerLaws.{too-high, file-at-fault, files-read}
 use borrow.Author.Rules.{rules}
 use Rattle.propose.proofs.request.search_files.Goals as goal
@@ -12,11 +13,11 @@ pub returns-in-Refused : goal.returns-in-Refused
 returns-in-Refused c =
     let x = c.args in
     let y = c.read_books in
-    file-at-fault x.height x.rules.now x.goal.now x.terms.now x.room.now x.strip.now c.if-height-gt32.false y.result y.ensures c.in-Refused.is
+    file-at-fault x.height x.rules.now x.goal.now x.terms.now x.room.now x.strip.now (omega arith) y.result y.ensures c.in-Refused.is
 
 pub returns-in-Sound : goal.returns-in-Sound
 returns-in-Sound c =
     let x = c.args in
     let y = c.read_books in
     let s = c.search_goal in
-    files-read x.height x.rules.now x.goal.now x.terms.now x.room.now x.strip.now c.if-height-gt32.false y.result y.ensures s.new.strip s.result c.in-Sound.is s.ensures
+    files-read x.height x.rules.now x.goal.now x.terms.now x.room.now x.strip.now (omega arith) y.result y.ensures s.new.strip s.result c.in-Sound.is s.ensures
