@@ -1,6 +1,5 @@
 -- `answer` (src/main.rt): the two files that are written lie inside their buffers.
 use native.Mathlib.Omega.{arith}
-use borrow.Author.Rules.{rules}
 use mathlib.Core.Path.{sym}
 use lib.Seq.{length-take-le}
 use Rattle.tptp.proofs.TrueLaws.{written-inside}

@@ -1,5 +1,4 @@
 -- The verdict as numbers.
-use borrow.Author.Rules.{rules}
 use Rattle.desk.proofs.NumberLaws.{accepted, refused}
 use Rattle.desk.proofs.desk_judge.Goals as goal
 

@@ -1,5 +1,4 @@
 -- The answer of a search as numbers.
-use borrow.Author.Rules.{rules}
 use Rattle.desk.proofs.NumberLaws.{found, not_found}
 use Rattle.desk.proofs.desk_propose.Goals as goal
 

@@ -1,5 +1,5 @@
 -- `blank` (src/main.rt): so many zeros are so many.
-use Rattle.std.proofs.Common.{◌≡◌, ℕ, sym}
+use Rattle.std.proofs.Common.{ℕ, sym}
 use Rattle.std.proofs.lemmas.List.{length-replicate}
 use Rattle.judge_cases.proofs.blank.Goals as goal
 

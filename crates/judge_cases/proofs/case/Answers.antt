@@ -2,7 +2,6 @@
 use lib.ListN.{length}
 use Rattle.programs.proofs.StringLaws.{string-after}
 use native.Mathlib.Omega.{arith}
-use borrow.Author.Rules.{rules}
 use Rattle.judge_cases.proofs.case.Goals as goal
 
 pub returns : goal.returns

@@ -1,6 +1,5 @@
 -- `answer` (src/main.rt): the strip that is found lies inside the buffer.
 use native.Mathlib.Omega.{arith}
-use borrow.Author.Rules.{rules}
 use mathlib.Core.Path.{sym}
 use lib.Seq.{length-take-le}
 use Rattle.proposal.proofs.InsideLaws.{found_inside}

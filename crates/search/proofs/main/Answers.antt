@@ -1,5 +1,4 @@
 -- `main` (src/main.rt): the size that was given is at most 16,384.
-use borrow.Author.Rules.{rules}
 use Rattle.search.proofs.SizedLaws.{sized-is}
 use Rattle.search.proofs.main.Goals as goal
 

@@ -1,6 +1,5 @@
 -- `run` (src/main.rt): the buffer is the front of the bytes for a strip.
 use native.Mathlib.Omega.{arith}
-use borrow.Author.Rules.{rules}
 use mathlib.Core.Path.{sym}
 use lib.Seq.{length-take-le}
 use Rattle.search.proofs.run.Goals as goal

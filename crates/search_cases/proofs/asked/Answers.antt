@@ -2,7 +2,6 @@
 use mathlib.Core.Path.{sym}
 use lib.Seq.{length-take-le}
 use native.Mathlib.Omega.{arith}
-use borrow.Author.Rules.{rules}
 use Rattle.search_cases.proofs.asked.Goals as goal
 
 pub slice_bounds-searched-end : goal.slice_bounds-searched-end

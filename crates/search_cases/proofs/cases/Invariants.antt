@@ -2,7 +2,6 @@
 use mathlib.Core.Path.{◌≡◌}
 use Prim.Native.Nat.{◌-◌}
 use lib.ListN.{length}
-use borrow.Author.Rules.{rules}
 use Rattle.search_cases.proofs.cases.Given as goal
 
 abbrev pub invariant-loop-at : goal.invariant-loop-at

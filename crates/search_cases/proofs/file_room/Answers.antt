@@ -1,5 +1,5 @@
 -- `file_room` (src/main.rt): so many zeros are so many.
-use Rattle.std.proofs.Common.{◌≡◌, ℕ, sym}
+use Rattle.std.proofs.Common.{ℕ, sym}
 use Rattle.std.proofs.lemmas.List.{length-replicate}
 use Rattle.search_cases.proofs.file_room.Goals as goal
 

@@ -3,7 +3,6 @@ use mathlib.Core.Path.{sym}
 use lib.Seq.{length-take-le}
 use Rattle.proposal.proofs.InsideLaws.{found_inside}
 use native.Mathlib.Omega.{arith}
-use borrow.Author.Rules.{rules}
 use Rattle.search_cases.proofs.searched.Goals as goal
 
 pub slice_bounds-found-end : goal.slice_bounds-found-end

@@ -1,7 +1,6 @@
 -- `zero` (src/main.rt): the loop goes through the room once.
 use Prim.Native.Nat.{◌-◌}
 use lib.ListN.{length}
-use borrow.Author.Rules.{rules}
 use Rattle.search_cases.proofs.zero.Given as goal
 
 abbrev pub invariant-loop-i : goal.invariant-loop-i

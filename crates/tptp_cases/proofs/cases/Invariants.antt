@@ -1,7 +1,6 @@
 -- `cases` (src/main.rt): each case ends further on, so the loop ends.
 use Prim.Native.Nat.{◌-◌}
 use lib.ListN.{length}
-use borrow.Author.Rules.{rules}
 use Rattle.tptp_cases.proofs.cases.Given as goal
 
 abbrev pub invariant-loop-at : goal.invariant-loop-at

@@ -3,7 +3,6 @@ use mathlib.Core.Path.{sym}
 use lib.Seq.{length-take-le}
 use Rattle.tptp.proofs.TrueLaws.{written-inside}
 use native.Mathlib.Omega.{arith}
-use borrow.Author.Rules.{rules}
 use Rattle.tptp_cases.proofs.read.Goals as goal
 
 pub slice_bounds-written-end : goal.slice_bounds-written-end

@@ -1,5 +1,5 @@
 -- `room` (src/main.rt): so many zeros are so many.
-use Rattle.std.proofs.Common.{◌≡◌, ℕ, sym}
+use Rattle.std.proofs.Common.{ℕ, sym}
 use Rattle.std.proofs.lemmas.List.{length-replicate}
 use Rattle.tptp_cases.proofs.room.Goals as goal
 

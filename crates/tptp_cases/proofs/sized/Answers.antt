@@ -2,7 +2,6 @@
 use native.Mathlib.Omega.{arith}
 use mathlib.Core.Path.{sym}
 use lib.Seq.{length-take-le}
-use borrow.Author.Rules.{rules}
 use Rattle.tptp_cases.proofs.sized.Goals as goal
 
 pub slice_bounds-read-end : goal.slice_bounds-read-end
