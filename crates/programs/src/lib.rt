@@ -26,6 +26,20 @@ fn as_text(name: &[u8]) -> io::Result<&str> {
     }
 }
 
+// Whether a file is there.
+#[derive(Drop)]
+enum Opened<F> {
+    Missing,
+    There(F),
+}
+
+fn open_file<R: Files>(files: &R, path: &[u8]) -> io::Result<Opened<R::File>> {
+    match fs::open(files, as_text(path)?) {
+        Err(_) => Ok(Opened::Missing),
+        Ok(file) => Ok(Opened::There(file)),
+    }
+}
+
 // Reads until the buffer is full, the input ends or a read fails. How many bytes were put at its start.
 fn read_full<R: Read>(input: &mut R, buf: &mut [u8]) -> usize
     ensures { IsPrefixLen result buf.new }
@@ -45,9 +59,9 @@ fn read_full<R: Read>(input: &mut R, buf: &mut [u8]) -> usize
 pub fn load(files: &impl Files, path: &[u8], buf: &mut [u8]) -> io::Result<usize>
     ensures { IfOk result (λ n. IsPrefixLen n buf.new) }
 {
-    match fs::open(files, as_text(path)?) {
-        Err(_) => Ok(0),
-        Ok(mut file) => Ok(read_full(&mut file, buf)),
+    match open_file(files, path)? {
+        Opened::Missing => Ok(0),
+        Opened::There(mut file) => Ok(read_full(&mut file, buf)),
     }
 }
 
