@@ -6,7 +6,7 @@ mod cases;
 mod saved;
 mod word;
 
-ghost use Rattle.std.specs.Prelude.{IfOk};
+ghost use Rattle.std.specs.Prelude.{◌≡◌, IfOk, IfErr, IsUtf8};
 ghost use Rattle.programs.specs.Counts.{IsPrefixLen};
 
 pub use arguments::{argument, argument_count};
@@ -19,7 +19,9 @@ use std::{fs, io};
 pub use word::number;
 
 // A name as text; the library opens no other.
-fn as_text(name: &[u8]) -> io::Result<&str> {
+fn as_text(name: &[u8]) -> io::Result<&str>
+    ensures { IfErr result (λ e. ¬ (IsUtf8 name.now)) }
+{
     match std::str::from_utf8(name) {
         Ok(text) => Ok(text),
         Err(_) => Err(io::Error::new(ErrorKind::InvalidInput, "the name is not UTF-8")),
@@ -33,7 +35,9 @@ enum Opened<F> {
     There(F),
 }
 
-fn open_file<R: Files>(files: &R, path: &[u8]) -> io::Result<Opened<R::File>> {
+fn open_file<R: Files>(files: &R, path: &[u8]) -> io::Result<Opened<R::File>>
+    ensures { IfErr result (λ e. ¬ (IsUtf8 path.now)) }
+{
     match fs::open(files, as_text(path)?) {
         Err(_) => Ok(Opened::Missing),
         Ok(file) => Ok(Opened::There(file)),
@@ -55,9 +59,10 @@ fn read_full<R: Read>(input: &mut R, buf: &mut [u8]) -> usize
 }
 
 // Reads a file, as far as the buffer goes: one byte more than a file may have tells that it is too long. A missing file counts as empty; one that cannot be read
-// counts as far as it was read. The one error is that of a name that is not UTF-8.
+// counts as far as it was read. The one error is that of a name that is not UTF-8, and it leaves the buffer as it was.
 pub fn load(files: &impl Files, path: &[u8], buf: &mut [u8]) -> io::Result<usize>
-    ensures { IfOk result (λ n. IsPrefixLen n buf.new) }
+    ensures read { IfOk result (λ n. IsPrefixLen n buf.new) }
+    ensures not_text { IfErr result (λ e. (buf.new ≡ buf.old) × ¬ (IsUtf8 path.now)) }
 {
     match open_file(files, path)? {
         Opened::Missing => Ok(0),
