@@ -2,6 +2,7 @@
 use Prim.Native.Nat.{ℕ}
 use mathlib.Core.Path.{◌∙◌, ap}
 use lib.ListN.{replicate}
+use native.Mathlib.Omega.{arith}
 use Rattle.judge.proofs.VerdictLaws.{judgement-short, judgement-long}
 use Rattle.judge.proofs.judge.Goals as goal
 
@@ -13,5 +14,4 @@ returns-then-room-lt8192 c =
 pub returns : goal.returns
 returns c =
     let x = c.args in
-    let l = c.if-room-lt8192.false in
-    judgement-long x.rules.now x.goal.now x.terms.now x.strip.now x.room.now c.clear.new.room c.judge_files-v.result l (c.judge_files-v.ensures l) (c.clear.ensures ∙ ap (λ (n : ℕ). replicate n 0) c.judge_files-v.auto.room)
+    judgement-long x.rules.now x.goal.now x.terms.now x.strip.now x.room.now c.clear.new.room c.judge_files-v.result (omega arith) (c.judge_files-v.ensures (omega arith)) (c.clear.ensures ∙ ap (λ (n : ℕ). replicate n 0) c.judge_files-v.auto.room)

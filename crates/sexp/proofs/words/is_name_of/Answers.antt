@@ -4,6 +4,7 @@ use mathlib.Core.Path.{sym, ◌∙◌}
 use lib.ListN.{length}
 use borrow.Author.Tests.{not-true, not-false}
 use Rattle.sexp.proofs.NameLaws.{Naming, name-none, name-long, name-first, naming-start, naming-on, name-other, name-end}
+use native.Mathlib.Omega.{arith}
 use borrow.Author.Rules.{rules}
 use Rattle.sexp.proofs.words.is_name_of.Goals as goal
 
@@ -26,4 +27,4 @@ pub loop-i-preserved : goal.loop-i-preserved
 loop-i-preserved c = naming-on c.args.w.now c.loop-i.i c.loop-i.invariant c.loop-i-test.true (sym c.name_octet.ensures ∙ not-false _ c.if-not-name_octet.false-raw)
 
 pub returns : goal.returns
-returns c = name-end c.args.w.now c.loop-i.i c.loop-i.invariant c.loop-i-test.false c.if-w-gt32.false (sym c.letter.ensures ∙ not-false _ c.if-not-letter.false-raw)
+returns c = name-end c.args.w.now c.loop-i.i c.loop-i.invariant c.loop-i-test.false (omega arith) (sym c.letter.ensures ∙ not-false _ c.if-not-letter.false-raw)

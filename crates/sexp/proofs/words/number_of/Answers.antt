@@ -22,4 +22,4 @@ pub returns-then-next-w : goal.returns-then-next-w
 returns-then-next-w c = numeral-more c.args.w.now c.number-p.result.value c.number-p.result.next c.number-p.ensures c.if-next-w.true
 
 pub returns : goal.returns
-returns c = numeral-read c.args.w.now c.number-p.result.value c.number-p.result.next c.number-p.ensures c.if-next-w.false c.if-w-gt3.false
+returns c = numeral-read c.args.w.now c.number-p.result.value c.number-p.result.next c.number-p.ensures c.if-next-w.false (omega arith)
