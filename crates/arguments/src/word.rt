@@ -1,45 +1,58 @@
 // What the words of two atoms say, argument by argument: they are not the same, or a variable of the first must be a candidate, or nothing.
 ghost use Rattle.arguments.specs.Arguments.{Beside, Between};
 
-// By one argument of each: 1023 where they are not the same, one more than the candidate that the variable must be, else 0.
-fn beside(a: u32, b: u32) -> u32
+use unset::Forced;
+
+// Kept: the numbers are read from the ten bits of a word; the enum would be made of them here and taken apart at once.
+// By one argument of each.
+fn beside(a: u32, b: u32) -> Forced
     ensures { Beside a b result }
 {
     if b == 0 {
-        return 1023;
+        return Forced::Never;
     }
     if a == 1022 {
-        return 0;
+        return Forced::Nothing;
     }
     if b == 1022 {
-        return 0;
+        return Forced::Nothing;
     }
     if b == 1021 {
-        return 0;
+        return Forced::Nothing;
     }
     if a == 1021 {
-        return b;
+        return if b == 1023 {
+            Forced::Never
+        } else {
+            Forced::Candidate(b - 1)
+        };
     }
     if a != b {
-        return 1023;
+        return Forced::Never;
     }
-    0
+    Forced::Nothing
 }
 
 // By at most so many arguments of each.
-pub fn between(asked: u32, kept: u32, most: usize) -> u32
+pub fn between(asked: u32, kept: u32, most: usize) -> Forced
     ensures { Between asked kept result }
 {
     if most == 0 {
-        return 0;
+        return Forced::Nothing;
     }
     if asked == 0 {
-        return if kept == 0 { 0 } else { 1023 };
+        return if kept == 0 {
+            Forced::Nothing
+        } else {
+            Forced::Never
+        };
     }
     let one = beside(asked % 1024, kept % 1024);
-    if one == 1023 {
-        return 1023;
+    match one {
+        Forced::Never => one,
+        _ => match between(asked / 1024, kept / 1024, most - 1) {
+            Forced::Nothing => one,
+            rest => rest,
+        },
     }
-    let rest = between(asked / 1024, kept / 1024, most - 1);
-    if rest == 0 { one } else { rest }
 }

@@ -2,31 +2,22 @@
 // (document 02, One). Refused, it leaves both files as they were.
 #![tactic(auto)]
 
-use programs::{
-    argument, argument_count, give_name, load, put_aside, say, say_number, say_numbers,
-};
+use programs::{RefusalNumbers, argument, argument_count, give_name, loaded, put_aside};
 use std::{fs, io};
-use tptp::Converted;
+use tptp::{Refusal, Written};
 
+// What cannot be printed is left out, here and below.
 fn usage(rt: &HostRuntime) {
-    say(
-        &rt.stderr(),
-        b"usage: book [FILE], a name of at most 4095 bytes\n",
-    );
+    let _ = eprintln!(rt; "usage: book [FILE], a name of at most 4095 bytes");
 }
 
 // Makes both files under other names. Whether that was done; if not, a line on standard error says why, and neither is there.
-fn both_aside<'a>(rt: &HostRuntime, rules: &'a [u8], goal: &'a [u8]) -> bool {
-    if !put_aside(
-        rt,
-        &rt.stderr(),
-        b"rules.sx.new",
-        b"book: rules.sx.new",
-        rules,
-    ) {
+fn both_aside(rt: &HostRuntime, rules: &[u8], goal: &[u8]) -> bool {
+    let err = rt.stderr();
+    if !put_aside(rt, &err, b"rules.sx.new", b"book: rules.sx.new", rules) {
         return false;
     }
-    if !put_aside(rt, &rt.stderr(), b"goal.sx.new", b"book: goal.sx.new", goal) {
+    if !put_aside(rt, &err, b"goal.sx.new", b"book: goal.sx.new", goal) {
         let _ = fs::remove_file(rt, "rules.sx.new");
         return false;
     }
@@ -34,47 +25,39 @@ fn both_aside<'a>(rt: &HostRuntime, rules: &'a [u8], goal: &'a [u8]) -> bool {
 }
 
 // Leaves the rules in rules.sx and the goal in goal.sx; no file gets its name before both are whole. Whether that was done; if not, a line on standard error says why.
-fn save<'a>(rt: &HostRuntime, rules: &'a [u8], goal: &'a [u8]) -> bool {
+fn save(rt: &HostRuntime, rules: &[u8], goal: &[u8]) -> bool {
+    let err = rt.stderr();
     if !both_aside(rt, rules, goal) {
         return false;
     }
-    if !give_name(
-        rt,
-        &rt.stderr(),
-        b"rules.sx.new",
-        b"rules.sx",
-        b"book: rules.sx",
-    ) {
+    if !give_name(rt, &err, b"rules.sx.new", b"rules.sx", b"book: rules.sx") {
         let _ = fs::remove_file(rt, "goal.sx.new");
         return false;
     }
-    give_name(
-        rt,
-        &rt.stderr(),
-        b"goal.sx.new",
-        b"goal.sx",
-        b"book: goal.sx",
-    )
+    give_name(rt, &err, b"goal.sx.new", b"goal.sx", b"book: goal.sx")
 }
 
 // Reads the book, leaves the two files, and prints the answer.
-fn answer<'a>(rt: &HostRuntime, text: &'a [u8], rules: &mut [u8], goal: &mut [u8]) {
-    match tptp::tptp(text, rules, goal) {
-        Converted::Written { rules: r, goal: g } => {
+fn answer(rt: &HostRuntime, text: &[u8], rules: &mut [u8], goal: &mut [u8]) {
+    let _ = match tptp::tptp(text, rules, goal) {
+        Ok(Written { rules: r, goal: g }) => {
             if !save(rt, &rules[..r], &goal[..g]) {
                 return;
             }
-            say(rt, b"written");
-            say_number(rt, r as u64);
-            say_number(rt, g as u64);
+            println!(rt; "written {r} {g}")
         }
-        Converted::Refused {
+        Err(
+            Refusal {
+                reason,
+                file,
+                place,
+            },
+        ) => rt.println(RefusalNumbers {
             reason,
             file,
             place,
-        } => say_numbers(rt, reason as u64, file as u64, place as u64),
-    }
-    say(rt, b"\n");
+        }),
+    };
 }
 
 // The same for a file, with bytes for as much as rules and goal may have.
@@ -82,8 +65,8 @@ fn convert(rt: &HostRuntime, path: &[u8]) -> io::Result<()> {
     let mut text = [0u8; 16385];
     let mut rules = [0u8; 16384];
     let mut goal = [0u8; 16384];
-    let n = load(rt, path, &mut text)?;
-    answer(rt, &text[..n], &mut rules, &mut goal);
+    let text = loaded(rt, path, &mut text)?;
+    answer(rt, text, &mut rules, &mut goal);
     Ok(())
 }
 
@@ -92,13 +75,9 @@ fn main(rt: HostRuntime) -> io::Result<()> {
     if count < 2 {
         return convert(&rt, b"book.p");
     }
-    if 2 < count {
-        usage(&rt);
-        return Ok(());
-    }
     let mut word = [0u8; 4095];
     let n = argument(&rt, 1, &mut word);
-    if n == 0 {
+    if 2 < count || n == 0 {
         usage(&rt);
         return Ok(());
     }

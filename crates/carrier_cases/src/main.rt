@@ -4,7 +4,7 @@
 
 ghost use Rattle.std.specs.Prelude.{◌≡◌, ◌<◌, ◌≤◌, length, take};
 
-use sexp::{Carrier, Octets};
+use sexp::Carrier;
 use std::fs;
 use std::io::Read;
 use std::rt::Files;
@@ -17,10 +17,12 @@ struct Part {
 }
 
 // Reads a file whole, as far as the buffer goes.
+// Kept: crate `programs` has the same for a file's bytes, and builds on more than this program is a test of.
 fn load<R: Read + Drop>(mut file: R, buf: &mut [u8]) -> usize
     ensures { (result ≤ length buf.new) × (result ≡ length (take result buf.new)) }
 {
     let mut done = 0;
+    // Kept: each turn reads as many bytes as the file gives, so the count runs over no range.
     while done < buf.len() {
         match file.read(&mut buf[done..]) {
             Ok(n) if n > 0 => done += n,
@@ -36,11 +38,11 @@ fn string(s: &[u8], at: usize) -> Part
     ensures { (at < result.to) × ((result.from ≤ result.to) × (result.to ≤ length s.now)) }
 {
     match sexp::plain(s, at) {
-        Octets::Nothing => Part {
+        None => Part {
             from: s.len(),
             to: s.len(),
         },
-        Octets::Span(from, n) => Part { from, to: from + n },
+        Some((from, n)) => Part { from, to: from + n },
     }
 }
 
@@ -48,8 +50,7 @@ fn string(s: &[u8], at: usize) -> Part
 fn digit(s: &[u8], at: usize) -> usize
     ensures { result ≤ 255 }
 {
-    let b = sexp::byte(s, at);
-    if b < 48 { 0 } else { (b - 48) as usize }
+    sexp::byte(s, at).saturating_sub(b'0') as usize
 }
 
 // What a string of one or two digits says.
@@ -62,33 +63,13 @@ fn limit(s: &[u8]) -> usize {
 }
 
 // What cannot be printed is left out.
-fn say(out: &impl Print, word: &[u8]) {
-    let _ = out.write_all(word);
-}
-
-fn line(out: &impl Print, word: &[u8]) {
-    say(out, word);
-    say(out, b"\n");
-}
-
-fn place(out: &impl Print, word: &[u8], at: usize) {
-    say(out, word);
-    let _ = out.print(at);
-    say(out, b"\n");
-}
-
+// Kept: the carrier's answer has no printed form but in this program and `carrier_examples`.
 fn show(out: &impl Print, v: Carrier) {
-    match v {
-        Carrier::Sound => {
-            line(out, b"sound");
-        }
-        Carrier::Fault(at) => {
-            place(out, b"fault ", at);
-        }
-        Carrier::Deep(at) => {
-            place(out, b"deep ", at);
-        }
-    }
+    let _ = match v {
+        Carrier::Sound => println!(out; "sound"),
+        Carrier::Fault(at) => println!(out; "fault {at}"),
+        Carrier::Deep(at) => println!(out; "deep {at}"),
+    };
 }
 
 // Judges the case at an offset, and answers where the next one starts.
@@ -96,21 +77,18 @@ fn case(out: &impl Print, s: &[u8], at: usize) -> usize
     requires { at < length s.now }
     ensures { at < result }
 {
-    let first = string(s, at);
-    let a = first.from;
-    let b = first.to;
+    let Part { from: a, to: b } = string(s, at);
     if b == s.len() {
         return b;
     }
-    let file = string(s, b);
-    let c = file.from;
-    let d = file.to;
+    let Part { from: c, to: d } = string(s, b);
     show(out, sexp::canonical(&s[c..d], limit(&s[a..b])));
     d
 }
 
 fn cases(out: &impl Print, s: &[u8]) {
     let mut at = 0;
+    // Kept: each turn jumps over a whole case, so the offset runs over no range.
     while at < s.len() {
         at = case(out, s, at);
     }

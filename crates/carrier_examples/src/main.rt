@@ -3,36 +3,14 @@
 
 use sexp::Carrier;
 
-// What cannot be printed is left out.
-fn say(out: &impl Print, word: &[u8]) {
-    let _ = out.write_all(word);
-}
-
-fn line(out: &impl Print, word: &[u8]) {
-    say(out, word);
-    say(out, b"\n");
-}
-
-fn place(out: &impl Print, word: &[u8], at: usize) {
-    say(out, word);
-    let _ = out.print(at);
-    say(out, b"\n");
-}
-
-// What is judged, and the answer for nesting of at most 64.
+// What is judged, and the answer for nesting of at most 64. What cannot be printed is left out.
 fn told(out: &impl Print, name: &[u8], file: &[u8]) {
-    say(out, name);
-    match sexp::canonical(file, 64) {
-        Carrier::Sound => {
-            line(out, b"   sound");
-        }
-        Carrier::Fault(at) => {
-            place(out, b"   fault ", at);
-        }
-        Carrier::Deep(at) => {
-            place(out, b"   deep ", at);
-        }
-    }
+    let _ = out.write_all(name);
+    let _ = match sexp::canonical(file, 64) {
+        Carrier::Sound => println!(out; "   sound"),
+        Carrier::Fault(at) => println!(out; "   fault {at}"),
+        Carrier::Deep(at) => println!(out; "   deep {at}"),
+    };
 }
 
 // A file that shows itself.
@@ -129,17 +107,12 @@ fn nested(out: &impl Print) {
 }
 
 fn long(out: &impl Print) {
-    let digits = [57u8; 4000];
+    let digits = [b'9'; 4000];
     told(out, b"4000 digits", &digits);
-    let lists = [40u8; 16384];
+    let lists = [b'('; 16384];
     told(out, b"16384 parentheses", &lists);
-    let mut s = [97u8; 40006];
-    s[0] = 52;
-    s[1] = 48;
-    s[2] = 48;
-    s[3] = 48;
-    s[4] = 48;
-    s[5] = 58;
+    let mut s = [b'a'; 40006];
+    s[..6].copy_from_slice(b"40000:");
     told(out, b"a string of 40000 octets", &s);
     told(
         out,

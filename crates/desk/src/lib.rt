@@ -11,6 +11,7 @@ use judge::Verdict;
 use proposal::Proposal;
 
 // Judges a strip.
+// Kept: a number and places to write to, since C calls this through crate desk_c with the same clauses.
 pub fn desk_judge<'a>(
     rules: &'a [u8],
     goal: &'a [u8],
@@ -43,6 +44,7 @@ pub fn desk_judge<'a>(
 }
 
 // Searches the first strip within a height.
+// Kept: a number and places to write to, as above.
 pub fn desk_propose<'a>(
     rules: &'a [u8],
     goal: &'a [u8],

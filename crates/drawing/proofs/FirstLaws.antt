@@ -9,6 +9,8 @@ use mathlib.Core.Option.{Option, none, some, some-injective}
 use lib.Dec.{ltb, leb}
 use lib.ListN.{length, get_or}
 use borrow.Author.Tests.{ltb-true, ltb-false, leb-true}
+use Rattle.std.specs.Prelude.{Some, None}
+use Rattle.std.specs.Prelude as std
 use Rattle.basics.specs.Choice.{choose, nope}
 use Rattle.harrop.specs.declared.Binding.{Binding}
 use Rattle.harrop.specs.declared.Binding.TheVariants.{Candidate}
@@ -19,7 +21,8 @@ use Rattle.sexp.specs.Sexp.{nesting}
 use Rattle.packet.specs.Written.{clause_sexp}
 use Rattle.room.specs.Layout.{candidates_word}
 use Rattle.room.specs.Frame.{binding_of, bindings_in, bound_to}
-use Rattle.room.specs.Where.{Files, Live, plus}
+use Rattle.room.specs.Where.{Live, plus}
+use Rattle.room.specs.Files.{Files}
 use Rattle.room.specs.declared.Spot.{Spot}
 use Rattle.room.specs.declared.Where.{Where}
 use Rattle.room.proofs.FrameLaws.{word-binding, bound-in}
@@ -32,15 +35,13 @@ use Rattle.table.proofs.GoodLaws.{words-alike}
 use Rattle.proving.specs.Provable.{candidate_does, clause_does, serves}
 use Rattle.proving.specs.Stock.{Stock, Keeps}
 use Rattle.proving.specs.Proving.{Ready, Taken, Finding, PassingWith, passes_with}
-use Rattle.proving.specs.Hand.{clause_in}
+use Rattle.hand.specs.Hand.{clause_in}
 use Rattle.proving.specs.Parts.{PartsOf, is_plain, quantifiers}
-use Rattle.proving.specs.declared.Chosen.{Chosen}
-use Rattle.proving.specs.declared.Chosen.TheVariants as C
 use Rattle.proving.specs.declared.plain.Parts.{Parts}
 use Rattle.proving.specs.First.{number_of}
 use Rattle.proving.specs.Filling.{LocatingAt, LocatingFirst}
 use Rattle.proving.proofs.StockLaws.{keeps_same, keeps_then, stock-low}
-use Rattle.proving.proofs.HandLaws.{hand-is}
+use Rattle.hand.proofs.HandLaws.{hand-is}
 use Rattle.proving.proofs.ChoiceLaws.{words-length}
 use Rattle.proving.proofs.RecallLaws.{chosen-here}
 use Rattle.proving.proofs.AtomLaws.{numbers}
@@ -65,6 +66,9 @@ pub yes-skip : (t : ℕ → Bool) (n r m j : ℕ) → r ≡ j + m → r ≤ n �
 yes-skip t n r zero j e l f = ap (λ (i : ℕ). first_yes t i (n - i)) {x = j} {y = r} (omega arith)
 yes-skip t n r (suc m) j e l f = yes-on t j n (t j) (omega arith) refl (f j (omega arith)) ∙ yes-skip t n r m (j + 1) (omega arith) l f
 
+yes-nowhere : (t : ℕ → Bool) (n : ℕ) → ((j : ℕ) → j < n → t j ≡ false) → first_yes t 0 (n - 0) ≡ none
+yes-nowhere t n f = yes-skip t n n n 0 (omega arith) (omega arith) f ∙ yes-none t n n (omega arith)
+
 yes-found : (t : ℕ → Bool) (i r n : ℕ) → r ≤ n → ((j : ℕ) → j < r → t j ≡ false) → (r < n → t r ≡ true) → first_yes t 0 (n - 0) ≡ some i → r ≡ i
 yes-found t i r n l f h e = go (ltb r n) refl (sym (yes-skip t n r r 0 (omega arith) l f) ∙ e)
   where
@@ -85,22 +89,28 @@ module _ {f : Files} {room : List ℕ} {w : Where} where
   pub numbers-not : (at k : ℕ) → HasNumbers f room w at k false
   numbers-not at k ds us height o c bs g r y = absurd (false≢true y)
 
-  pub numbers-told : {q : Chosen} {x : Spot} {p : Parts} {n : ℕ} (at k : ℕ) → q ≡ clause_in room k w.supposed → q ≡ C.Clause x → PartsOf f x 0 64 p → n ≡ numbers_of room at → HasNumbers f room w at k (leb p.own n)
-  numbers-told {x = x} {p = p} {n = n} at k e q parts many ds us height o c bs g r y h there plain =
-      let (h', there', b) = hand-is r.place k (C.Clause x) (sym e ∙ q) in
+  pub numbers-none : {q : std.Option Spot} {x : Spot} {s : std.Option Parts} (at k : ℕ) → q ≡ clause_in room k w.supposed → q ≡ Some x → PartsOf f x 0 64 s → s ≡ None → HasNumbers f room w at k true
+  numbers-none {x = x} at k e q parts gone ds us height o c bs g r y h there plain =
+      let (h', there', b) = hand-is r.place k (Some x) (sym e ∙ q) in
       let same : h' ≡ h = some-injective h' h (sym there' ∙ there) in
       let here : ClauseThere f x h'.clause = record { stands = b.stands; shallow = omega (arith, b.shallow); small = file-small r.place.booked x.source } in
       let plain' : is_plain h'.clause ≡ true = ap (λ (z : AtHand Plain). is_plain z.clause) same ∙ plain in
-      let found = parts.told h'.clause here.shallow here (omega (arith, b.shallow)) (omega arith) ∙ plain' in
-      let own = (parts.parts h'.clause here.shallow here (omega (arith, b.shallow)) (omega arith) found).own in
+      absurd (false≢true (sym (ap (λ (z : std.Option Parts). std.is_some z) gone) ∙ (parts.told h'.clause here.shallow here (omega (arith, b.shallow)) (omega arith) ∙ plain')))
+
+  pub numbers-told : {q : std.Option Spot} {x : Spot} {s : std.Option Parts} {p : Parts} {n : ℕ} (at k : ℕ) → q ≡ clause_in room k w.supposed → q ≡ Some x → PartsOf f x 0 64 s → s ≡ Some p → n ≡ numbers_of room at → HasNumbers f room w at k (leb p.own n)
+  numbers-told {x = x} {p = p} {n = n} at k e q parts got many ds us height o c bs g r y h there plain =
+      let (h', there', b) = hand-is r.place k (Some x) (sym e ∙ q) in
+      let same : h' ≡ h = some-injective h' h (sym there' ∙ there) in
+      let here : ClauseThere f x h'.clause = record { stands = b.stands; shallow = omega (arith, b.shallow); small = file-small r.place.booked x.source } in
+      let own = (parts.parts h'.clause here.shallow here (omega (arith, b.shallow)) (omega arith) p got).own in
       let l = leb-true p.own n y in
       let z : quantifiers h'.clause ≡ quantifiers h.clause = ap (λ (z : AtHand Plain). quantifiers z.clause) same in
       omega arith
 
 -- the clause that the table has kept for this atom at this height, and the numbers of its path on top of the stack
-module _ {f : Files} {room : List ℕ} {w : Where} (left : ℕ) {after : List ℕ} {height at k : ℕ} {e : Bool} (high : height ≡ plus left 1) (step : at % 16 ≡ 0) (some' : k ≡ 0 → ⊥) (by : Chose f room w height at k) (many : HasNumbers f room w at (k - 1) e) (enough : e ≡ true) (taken : at + 16 ≤ length room → Carried room after (numbers_word room at) (numbers_of room at) w.top) where
+module _ {f : Files} {room : List ℕ} {w : Where} (left : ℕ) {after : List ℕ} {height at k : ℕ} {e : Bool} (high : height ≡ plus left 1) (step : at % 16 ≡ 0) (told : Chose f room w height at (Some k)) (many : HasNumbers f room w at k e) (enough : e ≡ true) (taken : at + 16 ≤ length room → Carried room after (numbers_word room at) (numbers_of room at) w.top) where
   carried : Carried room after (numbers_word room at) (numbers_of room at) w.top
-  carried = taken (by (omega arith)).0.inside
+  carried = taken told.0.inside
 
   chosen-kept : {ds : List (Clause Plain)} {us : List Term} {o : List Plain} {c : Hand Plain} {bs : Bindings} {a : Atom} → Ready f room ds us w (suc left) o c bs (Goal.atom a) → Keeps (Stock f ds us w.supposed c) w.supposed w.top room after
   chosen-kept rd =
@@ -113,16 +123,16 @@ module _ {f : Files} {room : List ℕ} {w : Where} (left : ℕ) {after : List �
       live i (Live.low l) p = omega (arith, l, p, rd.enough.supposed, rd.place.framed.above, rd.place.tight)
       live i (Live.high l m) p = omega arith
 
-  pub clause-chosen : FirstClause f room after w left (k - 1)
+  pub clause-chosen : FirstClause f room after w left (Some k)
   unfolding clause_from
   clause-chosen ds us o c bs a i rd h =
-      let y = chosen-here rd height at k (omega (arith, high, rd.enough.supposed)) step (omega arith) by in
-      record { kept = chosen-kept rd; done = yes-found (clause_does (listed us) o c (serves (listed us) left o c bs a)) i (k - 1) (length c) (omega (arith, y.few)) y.before (λ l. y.here) h }
+      let y = chosen-here rd height at k (omega (arith, high, rd.enough.supposed)) step told in
+      record { kept = chosen-kept rd; done = ap Some (yes-found (clause_does (listed us) o c (serves (listed us) left o c bs a)) i k (length c) (omega (arith, y.few)) y.before (λ l. y.here) h) }
 
-  pub chosen-located : LocatingAt f room after w left (k - 1)
+  pub chosen-located : LocatingAt f room after w left k
   chosen-located ds us o c bs a rd h there plain =
-      let y = chosen-here rd height at k (omega (arith, high, rd.enough.supposed)) step (omega arith) by in
-      let t = (by (omega arith)).0 in
+      let y = chosen-here rd height at k (omega (arith, high, rd.enough.supposed)) step told in
+      let t = told.0 in
       let ns = words_in room (numbers_word room at) (numbers_of room at) in
       let size : length ns ≡ numbers_of room at = words-length room (numbers_word room at) (numbers_of room at) in
       y.numbers bs a refl h there plain (omega (arith, many ds us (suc left) o c bs (Goal.atom a) rd enough h there plain, size)) after w.top
@@ -131,17 +141,23 @@ module _ {f : Files} {room : List ℕ} {w : Where} (left : ℕ) {after : List �
 
 module _ {f : Files} {room : List ℕ} {w : Where} {left : ℕ} where
   -- the clause for an atom, which crate provable finds by the numbers of the atom and of its predicate
-  pub clause-found : {after : List ℕ} {predicate key r : ℕ} → PredicateKeyAt f w.goal predicate → AtomKeyAt f room w.goal key → Finding f room after w predicate key left r → FirstClause f room after w left r
+  pub clause-found : {after : List ℕ} {predicate key : ℕ} {r : std.Option ℕ} → PredicateKeyAt f w.goal predicate → AtomKeyAt f room w.goal key → Finding f room after w predicate key left r → FirstClause f room after w left r
   unfolding clause_from
-  clause-found {predicate = predicate} {key = key} {r = r} p k found ds us o c bs a i rd h =
+  clause-found {predicate = predicate} {key = key} {r = None} p k found ds us o c bs a i rd h =
       let (e, e') = numbers rd predicate key p k in
       let y = found ds us o c bs a rd e e' in
-      record { kept = y.kept; done = yes-found (clause_does (listed us) o c (serves (listed us) left o c bs a)) i r (length c) y.few y.before y.here h }
-
-  pub clause-located : {after : List ℕ} {predicate key r : ℕ} → PredicateKeyAt f w.goal predicate → AtomKeyAt f room w.goal key → LocatingFirst f room after w predicate key left r → LocatingAt f room after w left r
-  clause-located {predicate = predicate} {key = key} p k m ds us o c bs a rd =
+      record { kept = y.kept; done = nope (sym (yes-nowhere (clause_does (listed us) o c (serves (listed us) left o c bs a)) (length c) (y.none refl)) ∙ h) }
+  clause-found {predicate = predicate} {key = key} {r = Some m} p k found ds us o c bs a i rd h =
       let (e, e') = numbers rd predicate key p k in
-      m ds us o c bs a rd e e'
+      let y = found ds us o c bs a rd e e' in
+      let z = y.one m refl in
+      record { kept = y.kept; done = ap Some (yes-found (clause_does (listed us) o c (serves (listed us) left o c bs a)) i m (length c) (omega (arith, z.few)) z.before (λ l. z.here) h) }
+
+  pub clause-located : {after : List ℕ} {predicate key : ℕ} {r : std.Option ℕ} → PredicateKeyAt f w.goal predicate → AtomKeyAt f room w.goal key → LocatingFirst f room after w predicate key left r → std.MatchOption r std.⊤ (λ (n : ℕ). LocatingAt f room after w left n)
+  clause-located {r = None} p k m = tt
+  clause-located {predicate = predicate} {key = key} {r = Some n} p k m = λ ds us o c bs a rd.
+      let (e, e') = numbers rd predicate key p k in
+      m n refl ds us o c bs a rd e e'
 
   -- the candidates on the way into the clause of an `all`
   module _ {x : Spot} where

@@ -20,21 +20,22 @@ use Rattle.harrop.specs.Search.{first}
 use Rattle.harrop.proofs.SearchLaws.{dressed-some}
 use Rattle.harrop.proofs.FirstLaws.{first-within}
 use Rattle.harrop.proofs.FoundLaws.{found-is-first}
-use Rattle.sexp.specs.declared.skip.After.{After}
-use Rattle.sexp.specs.declared.skip.After.TheVariants as A
+use Rattle.std.specs.Prelude as std
+use Rattle.std.proofs.lemmas.Option.{MatchOption-at_some, none-some, same_Some}
+use Rattle.std.specs.Prelude.{Some, None}
 use Rattle.sexp.specs.Past.{PastAt}
 use Rattle.sexp.specs.Sexp.{nesting}
 use Rattle.packet.specs.declared.Word.{Word}
 use Rattle.packet.specs.declared.Word.TheVariants as W
 use Rattle.reader.specs.WordAt.{WordAt}
 use Rattle.packet.specs.declared.Kind.TheVariants as K
-use Rattle.rows.specs.declared.table.Row.TheVariants as R
 use Rattle.rows.specs.Rows.{row_of}
 use Rattle.packet.specs.Table.{due_after}
 use Rattle.packet.specs.Barred.{goal_ok, atom_ok, clause_ok}
 use Rattle.packet.specs.Written.{clause_sexp}
 use Rattle.room.specs.Frame.{binding_word, held}
-use Rattle.room.specs.Where.{Files, plus, further}
+use Rattle.room.specs.Where.{plus, further}
+use Rattle.room.specs.Files.{Files}
 use Rattle.room.specs.declared.Spot.{Spot}
 use Rattle.room.specs.declared.Where.{Where}
 use Rattle.room.proofs.FrameLaws.{frame-length}
@@ -46,8 +47,6 @@ use Rattle.proving.specs.Proving.{Ready, Taken, Passing}
 use Rattle.proving.specs.Parts.{PlainAt}
 use Rattle.proving.specs.First.{PathIn}
 use Rattle.proving.specs.Filling.{LocatingAt}
-use Rattle.proving.specs.declared.Chosen.{Chosen}
-use Rattle.proving.specs.declared.Chosen.TheVariants as C
 use Rattle.heads.proofs.HeadLaws.{goal-is, clause-says, clause-is, clause-has-row, heads, first_part, second-found, first_found}
 use Rattle.proving.proofs.StockLaws.{keeps_same, keeps_then, keeps-less}
 use Rattle.proving.proofs.ReadyLaws.{allowed-below, ready-kept}
@@ -150,7 +149,7 @@ module _ {f : Files} {room : List ℕ} {w : Where} {x : Spot} {left at : ℕ} {d
   by-any nest word p ds us o c bs a dc bs' path end B h l t k z loc = p ds us o c bs a dc bs' path end B h l t k z (λ y. absurd (false≢true y))
 
   -- no clause has any other word
-  pub by-other : {after d' : List ℕ} {located : Bool} (nest : ℕ) (k : Word) → WordAt (drop x.at (bytes_at f x)) 1 k → R.Nothing ≡ row_of (due_after K.Clause k) → Pathing f room after d d' w x nest left at located r
+  pub by-other : {after d' : List ℕ} {located : Bool} (nest : ℕ) (k : Word) → WordAt (drop x.at (bytes_at f x)) 1 k → None ≡ row_of (due_after K.Clause k) → Pathing f room after d d' w x nest left at located r
   by-other nest k q n ds us o c bs a dc bs' path e B l t = absurd (clause-has-row dc k (clause-says (bytes_at f x) x.at dc k t.framed.stands q) n)
 
   -- an atom: the path ends, and nothing is behind it
@@ -178,7 +177,7 @@ module _ {f : Files} {room : List ℕ} {w : Where} {x : Spot} {left at : ℕ} {d
       })
 
   -- two clauses
-  pub and-lost : {after d' : List ℕ} {q : After} (nest : ℕ) → PastAt (drop x.at (bytes_at f x)) 6 64 q → q ≡ A.Nothing → PathingAs W.And f room after d d' w x nest left at false r
+  pub and-lost : {after d' : List ℕ} {q : std.Option ℕ} (nest : ℕ) → PastAt (drop x.at (bytes_at f x)) 6 64 q → q ≡ None → PathingAs W.And f room after d d' w x nest left at false r
   and-lost {after} {d'} nest p k ds us o c bs a dc bs' path e B h =
       let (y, z, n) = clause-is dc h in
       subst (Claim f room after d d' ds us w x (suc nest) left at r o c bs a bs' path e B false) (sym n)
@@ -195,7 +194,7 @@ module _ {f : Files} {room : List ℕ} {w : Where} {x : Spot} {left at : ℕ} {d
       let m' = pathing-at j p' ds us o c bs a y bs' rest e B (omega arith) (taken-kept t' m.kept long) q u (λ y. absurd (false≢true y)) in
       record { kept = keeps_then room mid after (omega arith) (omega arith) m.kept m'.kept; done = drawn-as {path = Step.l ∷ rest} v refl (rest-l {path = rest} b m'.done) })
 
-  pub and_right : {mid after d1 d2 : List ℕ} {u v : Spot} {q : After} {k m : ℕ} {s : Bool} (nest : ℕ) → PastAt (drop x.at (bytes_at f x)) 6 64 q → q ≡ A.Next k → u ≡ further x 6 → Passing f room mid w u nest left s → s ≡ false → length mid ≡ length room → Puts at (octets "1:r") d d1 m → v ≡ further x k → Pathing f mid after d1 d2 w v nest left m false r → PathingAs W.And f room after d d2 w x nest left at false r
+  pub and_right : {mid after d1 d2 : List ℕ} {u v : Spot} {q : std.Option ℕ} {k m : ℕ} {s : Bool} (nest : ℕ) → PastAt (drop x.at (bytes_at f x)) 6 64 q → q ≡ Some k → u ≡ further x 6 → Passing f room mid w u nest left s → s ≡ false → length mid ≡ length room → Puts at (octets "1:r") d d1 m → v ≡ further x k → Pathing f mid after d1 d2 w v nest left m false r → PathingAs W.And f room after d d2 w x nest left at false r
   and_right {mid} {after} {d1} {d2} {k = k} nest w1 w2 i p z long b j p' ds us o c bs a dc bs' path e B h =
       let (y, y', n) = clause-is dc h in
       subst (Claim f room after d d2 ds us w x (suc nest) left at r o c bs a bs' path e B false) (sym n)
@@ -265,9 +264,18 @@ use-whole {at} {d = d} {d5 = d5} {r = r} S k path B e low head number open' rest
     subst (λ (R : Strip). Draws at R d d5 r) (sym e) (draws-use k (subst (λ (R : Strip). height R ≤ 64) e low) head number open' rest close)
 
 -- the use of the first clause that serves an atom
-module _ {f : Files} {room mid : List ℕ} {w : Where} {left at : ℕ} {d : List ℕ} {r : Drawn} (k : ℕ) (chosen : FirstClause f room mid w left k) (long : length mid ≡ length room) where
+pub use-nothing : {f : Files} {room after : List ℕ} {w : Where} {left at : ℕ} {d d' : List ℕ} {r : Drawn} {s : std.Option ℕ} → FirstClause f room after w left s → s ≡ None → WritingAs W.Atom f room after d d' w left at r
+use-nothing {f} {room} {after} {w} {left} {at} {d} {d'} {r} {s} chosen no' ds us o c bs g S h =
+    let (a, n) = goal-is g h in
+    subst (GoalClaim f room after d d' ds us w (suc left) at r o c bs S) (sym n)
+    (λ t u.
+    let (k', x, ch, m) = use-chosen us left o c bs a S u in
+    let z = chosen ds us o c bs a k' t ch in
+    absurd (none-some k' (sym no' ∙ z.done)))
+
+module _ {f : Files} {room mid : List ℕ} {w : Where} {left at : ℕ} {d : List ℕ} {r : Drawn} {chose : std.Option ℕ} (k : ℕ) (chosen : FirstClause f room mid w left chose) (is : chose ≡ Some k) (long : length mid ≡ length room) where
   -- it is at hand
-  pub use-none : {after d' : List ℕ} {q : Chosen} → Opened mid after k w.supposed w.top q → q ≡ C.Nothing → WritingAs W.Atom f room after d d' w left at r
+  pub use-none : {after d' : List ℕ} {q : std.Option Spot} → Opened mid after k w.supposed w.top q → q ≡ None → WritingAs W.Atom f room after d d' w left at r
   use-none {after} {d'} p e ds us o c bs g S h =
       let (a, n) = goal-is g h in
       subst (GoalClaim f room after d d' ds us w (suc left) at r o c bs S) (sym n)
@@ -275,9 +283,9 @@ module _ {f : Files} {room mid : List ℕ} {w : Where} {left at : ℕ} {d : List
       let (k', x, ch, m) = use-chosen us left o c bs a S u in
       let z = chosen ds us o c bs a k' t ch in
       let (gone, same) = opened-none (ready-kept z.kept long t) k (subst (Opened mid after k w.supposed w.top) e p) in
-      nope (sym gone ∙ ap (get_elem? c) z.done ∙ m))
+      nope (sym gone ∙ ap (get_elem? c) (same_Some k k' (sym is ∙ z.done)) ∙ m))
 
-  pub use-drawn : {now after d1 d2 d3 d4 d5 : List ℕ} {q : Chosen} {y : Spot} {l m n : ℕ} {located : Bool} {s : Drawn} → LocatingAt f room mid w left k → Opened mid now k w.supposed w.top q → q ≡ C.Clause y → PlainAt f y located → Puts at (octets "(3:use") d d1 l → Puts l (numeral k) d1 d2 m → Puts m (octets "(") d2 d3 n → Pathing f now after d3 d4 w y 64 left n located s → Closes s d4 d5 r → WritingAs W.Atom f room after d d5 w left at r
+  pub use-drawn : {now after d1 d2 d3 d4 d5 : List ℕ} {q : std.Option Spot} {y : Spot} {l m n : ℕ} {located : Bool} {s : Drawn} → std.MatchOption chose std.⊤ (λ (n : ℕ). LocatingAt f room mid w left n) → Opened mid now k w.supposed w.top q → q ≡ Some y → PlainAt f y located → Puts at (octets "(3:use") d d1 l → Puts l (numeral k) d1 d2 m → Puts m (octets "(") d2 d3 n → Pathing f now after d3 d4 w y 64 left n located s → Closes s d4 d5 r → WritingAs W.Atom f room after d d5 w left at r
   use-drawn {now} {after} {d5 = d5} {y = y₀} left' p e plain head number path m close ds us o c bs g S h =
       let (a, n) = goal-is g h in
       subst (GoalClaim f room after d d5 ds us w (suc left) at r o c bs S) (sym n)
@@ -285,13 +293,13 @@ module _ {f : Files} {room mid : List ℕ} {w : Where} {left at : ℕ} {d : List
       let (k', x', ch, there) = use-chosen us left o c bs a S u in
       let z = chosen ds us o c bs a k' t ch in
       let x = opened-clause (ready-kept z.kept long t) k (subst (Opened mid now k w.supposed w.top) e p) in
-      let z' = use-taken us left o c bs a S k x.clause (ch ∙ ap some (sym z.done)) x.there u in
+      let z' = use-taken us left o c bs a S k x.clause (ch ∙ ap some (sym (same_Some k k' (sym is ∙ z.done)))) x.there u in
       let y = m ds us o c bs a x.clause.clause x.clause.bindings z'.path z'.end z'.body (omega (arith, x.taken.framed.shallow)) x.taken z'.through z'.behind (λ b.
       let so = sym (plain x.clause.clause (omega (arith, x.taken.framed.shallow)) (clause-there x.taken) (omega (arith, x.taken.framed.shallow))) ∙ b in
       let many = ap length (sym x.taken.framed.holds) ∙ frame-length now y₀.base y₀.count in
       path-kept mid now (y₀.base + y₀.count) z'.path x.above
       (subst (λ (i : ℕ). PathIn mid i z'.path) {x = w.top + length x.clause.bindings} {y = y₀.base + y₀.count} (omega (arith, x.taken.fresh, many))
-      (located-path x.clause.clause (omega (arith, t.place.booked.candidates.few)) so (left' ds us o c bs a t x.clause x.there so) z'.through))) in
+      (located-path x.clause.clause (omega (arith, t.place.booked.candidates.few)) so (MatchOption-at_some std.⊤ (λ (n : ℕ). LocatingAt f room mid w left n) k is left' ds us o c bs a t x.clause x.there so) z'.through))) in
       let low : height S ≤ 64 = omega (arith, first-within (listed us) (found-is-first (listed us) (suc left) o c bs (Goal.atom a) S u), t.enough.supposed) in
       record {
         kept = keeps_then room mid after (omega arith) (omega arith) z.kept (keeps_then mid now after (omega arith) (omega (arith, x.taken.fresh)) x.kept y.kept);

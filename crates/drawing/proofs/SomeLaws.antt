@@ -17,7 +17,7 @@ use Rattle.harrop.specs.Bindings.{Bindings}
 use Rattle.harrop.specs.Place.{Hand, Plain, End, listed, allowed}
 use Rattle.packet.specs.declared.Word.TheVariants as W
 use Rattle.room.specs.Frame.{binding_word, binding_of, bindings_in, bound_to}
-use Rattle.room.specs.Where.{Files}
+use Rattle.room.specs.Files.{Files}
 use Rattle.room.specs.declared.Where.{Where}
 use Rattle.room.proofs.FrameLaws.{word-binding, bound-in}
 use Rattle.heads.specs.Heads.{goal_word}

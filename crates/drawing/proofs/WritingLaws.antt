@@ -17,20 +17,20 @@ use Rattle.harrop.specs.Place.{Hand, Plain, listed}
 use Rattle.harrop.specs.Search.{first}
 use Rattle.harrop.proofs.FirstLaws.{first-within}
 use Rattle.harrop.proofs.FoundLaws.{found-is-first}
-use Rattle.sexp.specs.declared.skip.After.{After}
-use Rattle.sexp.specs.declared.skip.After.TheVariants as A
+use Rattle.std.specs.Prelude as std
+use Rattle.std.specs.Prelude.{Some, None}
 use Rattle.sexp.specs.Past.{PastAt}
 use Rattle.packet.specs.declared.Word.{Word}
 use Rattle.packet.specs.declared.Word.TheVariants as W
 use Rattle.reader.specs.WordAt.{WordAt}
 use Rattle.packet.specs.declared.Kind.TheVariants as K
-use Rattle.rows.specs.declared.table.Row.TheVariants as R
 use Rattle.rows.specs.Rows.{row_of}
 use Rattle.packet.specs.Table.{due_after}
 use Rattle.packet.specs.Barred.{goal_ok, clause_ok}
 use Rattle.room.specs.Frame.{binding_word, held}
 use Rattle.room.specs.Spot.{supposing}
-use Rattle.room.specs.Where.{Files, plus, further, within, bound, supposes}
+use Rattle.room.specs.Where.{plus, further, within, bound, supposes}
+use Rattle.room.specs.Files.{Files}
 use Rattle.room.specs.declared.Spot.{Spot}
 use Rattle.room.specs.declared.Where.{Where}
 use Rattle.table.specs.Recall.{TableOnly, Forgets}
@@ -82,7 +82,7 @@ module _ {f : Files} {room : List ℕ} {w : Where} {at : ℕ} {d : List ℕ} {r 
       (p ds us o c bs g S (sym (goal-says (bytes_at f w.goal) w.goal.at g k rd.place.framed.stands q) ∙ e)) rd
 
   -- no goal has any other word
-  pub by-other : {after d' : List ℕ} (h : ℕ) (k : Word) → WordAt (drop w.goal.at (bytes_at f w.goal)) 1 k → R.Nothing ≡ row_of (due_after K.Goal k) → Writing f room after d d' w h at r
+  pub by-other : {after d' : List ℕ} (h : ℕ) (k : Word) → WordAt (drop w.goal.at (bytes_at f w.goal)) 1 k → None ≡ row_of (due_after K.Goal k) → Writing f room after d d' w h at r
   by-other h k q n ds us o c bs g S rd e = absurd (goal-has-row g k (goal-says (bytes_at f w.goal) w.goal.at g k rd.place.framed.stands q) n)
 
   pub top-drawn : {d' : List ℕ} (left : ℕ) → Draws at Strip.top d d' r → WritingAs W.Top f room room d d' w left at r
@@ -92,13 +92,13 @@ module _ {f : Files} {room : List ℕ} {w : Where} {at : ℕ} {d : List ℕ} {r 
 
   module _ {left : ℕ} where
     -- the part of an `and` or an `or` is always found
-    pub both-lost : {after d' : List ℕ} {q : After} → PastAt (drop w.goal.at (bytes_at f w.goal)) 6 64 q → q ≡ A.Nothing → WritingAs W.And f room after d d' w left at r
+    pub both-lost : {after d' : List ℕ} {q : std.Option ℕ} → PastAt (drop w.goal.at (bytes_at f w.goal)) 6 64 q → q ≡ None → WritingAs W.And f room after d d' w left at r
     both-lost {after} {d'} p e ds us o c bs g S h =
         let (x, y, n) = goal-is g h in
         subst (GoalClaim f room after d d' ds us w (suc left) at r o c bs S) (sym n)
         (λ rd u. absurd (first_found (octets "and") heads.0 rd.place.framed.stands (omega (arith, rd.place.framed.shallow)) p e))
 
-    pub both-drawn : {mid after d1 d2 d3 d4 : List ℕ} {v v' : Where} {q : After} {k m : ℕ} {a b s : Drawn} → PastAt (drop w.goal.at (bytes_at f w.goal)) 6 64 q → q ≡ A.Next k → Puts at (octets "(3:and") d d1 m → v ≡ within w 6 → Writing f room mid d1 d2 v left m a → length mid ≡ length room → v' ≡ within w k → Writing f mid after d2 d3 v' left a.at b → s ≡ beside a b → Closes s d3 d4 r → WritingAs W.And f room after d d4 w left at r
+    pub both-drawn : {mid after d1 d2 d3 d4 : List ℕ} {v v' : Where} {q : std.Option ℕ} {k m : ℕ} {a b s : Drawn} → PastAt (drop w.goal.at (bytes_at f w.goal)) 6 64 q → q ≡ Some k → Puts at (octets "(3:and") d d1 m → v ≡ within w 6 → Writing f room mid d1 d2 v left m a → length mid ≡ length room → v' ≡ within w k → Writing f mid after d2 d3 v' left a.at b → s ≡ beside a b → Closes s d3 d4 r → WritingAs W.And f room after d d4 w left at r
     both-drawn {mid} {after} {d3 = d3} {d4 = d4} {k = k} {a = a} {b = b} u e head i p l j p' t close ds us o c bs g S h =
         let (x, y, n) = goal-is g h in
         subst (GoalClaim f room after d d4 ds us w (suc left) at r o c bs S) (sym n)
@@ -112,7 +112,7 @@ module _ {f : Files} {room : List ℕ} {w : Where} {at : ℕ} {d : List ℕ} {r 
           done = drawn-as is (λ l. draws-and l head one.done two.done (subst (λ (y : Drawn). Closes y d3 d4 r) t close)) (low rd z);
         })
 
-    pub either-lost : {after d' : List ℕ} {q : After} → PastAt (drop w.goal.at (bytes_at f w.goal)) 5 64 q → q ≡ A.Nothing → WritingAs W.Or f room after d d' w left at r
+    pub either-lost : {after d' : List ℕ} {q : std.Option ℕ} → PastAt (drop w.goal.at (bytes_at f w.goal)) 5 64 q → q ≡ None → WritingAs W.Or f room after d d' w left at r
     either-lost {after} {d'} p e ds us o c bs g S h =
         let (x, y, n) = goal-is g h in
         subst (GoalClaim f room after d d' ds us w (suc left) at r o c bs S) (sym n)
@@ -133,7 +133,7 @@ module _ {f : Files} {room : List ℕ} {w : Where} {at : ℕ} {d : List ℕ} {r 
           done = drawn-as is (λ l. draws-left l head one.done close) (low rd z);
         })
 
-    pub either-right : {mid after d1 d2 d3 : List ℕ} {v v' : Where} {q : After} {k m : ℕ} {s : Bool} {a : Drawn} → PastAt (drop w.goal.at (bytes_at f w.goal)) 5 64 q → q ≡ A.Next k → v ≡ within w 5 → Proving f room mid v left s → s ≡ false → length mid ≡ length room → Puts at (octets "(5:right") d d1 m → v' ≡ within w k → Writing f mid after d1 d2 v' left m a → Closes a d2 d3 r → WritingAs W.Or f room after d d3 w left at r
+    pub either-right : {mid after d1 d2 d3 : List ℕ} {v v' : Where} {q : std.Option ℕ} {k m : ℕ} {s : Bool} {a : Drawn} → PastAt (drop w.goal.at (bytes_at f w.goal)) 5 64 q → q ≡ Some k → v ≡ within w 5 → Proving f room mid v left s → s ≡ false → length mid ≡ length room → Puts at (octets "(5:right") d d1 m → v' ≡ within w k → Writing f mid after d1 d2 v' left m a → Closes a d2 d3 r → WritingAs W.Or f room after d d3 w left at r
     either-right {mid} {after} {d3 = d3} {k = k} u e i y t l head j p close ds us o c bs g S h =
         let (x, x', n) = goal-is g h in
         subst (GoalClaim f room after d d3 ds us w (suc left) at r o c bs S) (sym n)
@@ -192,13 +192,13 @@ module _ {f : Files} {room : List ℕ} {w : Where} {at : ℕ} {d : List ℕ} {r 
         subst (GoalClaim f room after d d' ds us w (suc left) at r o c bs S) (sym n)
         (λ rd e. nope (ap (λ (m : ℕ). first (listed us) m o (c ++ (record { clause = dc; bindings = bs } ∷ [])) bs x >>= λ P. some (Strip.imp P)) {x = 0} {y = left} (sym z) ∙ e))
 
-    pub under-lost : {after d' : List ℕ} {q : After} → PastAt (drop w.goal.at (bytes_at f w.goal)) 6 64 q → q ≡ A.Nothing → WritingAs W.Imp f room after d d' w left at r
+    pub under-lost : {after d' : List ℕ} {q : std.Option ℕ} → PastAt (drop w.goal.at (bytes_at f w.goal)) 6 64 q → q ≡ None → WritingAs W.Imp f room after d d' w left at r
     under-lost {after} {d'} p e ds us o c bs g S h =
         let (dc, x, n) = goal-is g h in
         subst (GoalClaim f room after d d' ds us w (suc left) at r o c bs S) (sym n)
         (λ rd u. absurd (first_found (octets "imp") heads.1.1.1.1 rd.place.framed.stands (omega (arith, rd.place.framed.shallow)) p e))
 
-    pub under-drawn : {mid now after d1 d2 d3 : List ℕ} {v : Where} {y : Spot} {q : After} {k i m : ℕ} {a : Drawn} → (left ≡ 0 → ⊥) → PastAt (drop w.goal.at (bytes_at f w.goal)) 6 64 q → q ≡ A.Next k → y ≡ further w.goal 6 → mid ≡ supposing room w.supposed y → i ≡ plus w.supposed 1 → TableOnly mid now → Forgets mid now i → Puts at (octets "(3:imp") d d1 m → v ≡ supposes w k → Writing f now after d1 d2 v left m a → Closes a d2 d3 r → WritingAs W.Imp f room after d d3 w left at r
+    pub under-drawn : {mid now after d1 d2 d3 : List ℕ} {v : Where} {y : Spot} {q : std.Option ℕ} {k i m : ℕ} {a : Drawn} → (left ≡ 0 → ⊥) → PastAt (drop w.goal.at (bytes_at f w.goal)) 6 64 q → q ≡ Some k → y ≡ further w.goal 6 → mid ≡ supposing room w.supposed y → i ≡ plus w.supposed 1 → TableOnly mid now → Forgets mid now i → Puts at (octets "(3:imp") d d1 m → v ≡ supposes w k → Writing f now after d1 d2 v left m a → Closes a d2 d3 r → WritingAs W.Imp f room after d d3 w left at r
     under-drawn {mid} {now} {after} {d3 = d3} {k = k} z u e j under n only gone head i p close ds us o c bs g S h =
         let (dc, x, same) = goal-is g h in
         subst (GoalClaim f room after d d3 ds us w (suc left) at r o c bs S) (sym same)

@@ -1,6 +1,7 @@
 -- What the functions that draw the first strip say, for every place that stands in the room and has a proof within the height (document 01, "Which strip the search writes").
 -- `room` and `after` are the room's words before and after a call, `d` and `d'` the buffer's bytes; what the place relies on is kept. The first strip is crate harrop's.
-use Rattle.std.specs.Prelude.{ℕ, suc, ◌+◌, ◌≤◌, ◌≡◌, Bool, true, List, get_or}
+use Rattle.std.specs.Prelude.{ℕ, suc, ◌+◌, ◌≤◌, ◌≡◌, Bool, true, List, get_or, Some}
+use Rattle.std.specs.Prelude as std
 use Rattle.std.proofs.Math.Option.{Option, some}
 use Rattle.std.proofs.Math.ListN.{get_elem?}
 use Rattle.harrop.specs.declared.Binding.TheVariants.{Candidate}
@@ -12,7 +13,7 @@ use Rattle.sexp.specs.Sexp.{nesting}
 use Rattle.packet.specs.Written.{clause_sexp}
 use Rattle.packet.specs.declared.Word.{Word}
 use Rattle.room.specs.Frame.{binding_word}
-use Rattle.room.specs.Where.{Files}
+use Rattle.room.specs.Files.{Files}
 use Rattle.room.specs.declared.Spot.{Spot}
 use Rattle.room.specs.declared.Where.{Where}
 use Rattle.proving.specs.Provable.{serves}
@@ -80,12 +81,12 @@ FirstWith f room after w left r =
     Did (Stock f ds us w.supposed c) w.supposed w.top room after (r ≡ i)
 
 -- the first clause for an atom
-abbrev pub FirstClause : Files → List ℕ → List ℕ → Where → ℕ → ℕ → Type 0
+abbrev pub FirstClause : Files → List ℕ → List ℕ → Where → ℕ → std.Option ℕ → Type 0
 FirstClause f room after w left r =
     (ds : List (Clause Plain)) (us : List Term) (o : List Plain) (c : Hand Plain) (bs : Bindings) (a : Atom) (k : ℕ) →
     Ready f room ds us w (suc left) o c bs (Goal.atom a) →
     clause_from (listed us) o c (serves (listed us) left o c bs a) 0 ≡ some k →
-    Did (Stock f ds us w.supposed c) w.supposed w.top room after (r ≡ k)
+    Did (Stock f ds us w.supposed c) w.supposed w.top room after (r ≡ Some k)
 
 -- whether a slot of the table has as many words for numbers as clause k has quantifiers around it
 abbrev pub HasNumbers : Files → List ℕ → Where → ℕ → ℕ → Bool → Type 0

@@ -1,5 +1,5 @@
 // What is drawn of a strip (document 01, "What comes back": height, nodes, length).
-ghost use Rattle.std.specs.Prelude.{◌≡◌, max, []};
+ghost use Rattle.std.specs.Prelude.{◌≡◌, []};
 ghost use Rattle.std.proofs.Math.Option.{none};
 ghost use Rattle.harrop.specs.Formula.{Strip};
 ghost use Rattle.drawing.specs.Drawn as drawing;
@@ -15,22 +15,15 @@ pub fn nothing(at: usize) -> Drawn
     Drawn {
         height: 0,
         nodes: 0,
-        at: at,
+        at,
     }
-}
-
-// The higher of two heights.
-fn higher(a: usize, b: usize) -> usize
-    ensures { result ≡ max a b }
-{
-    if a < b { b } else { a }
 }
 
 // Where the part of a buffer begins that is behind so many bytes; its end, if it has no more.
 pub fn cut(m: usize, size: usize) -> usize
     ensures { drawing.Cuts m size result }
 {
-    if m < size { m } else { size }
+    m.min(size)
 }
 
 // What is drawn in a part of a buffer that begins behind so many bytes.
@@ -49,7 +42,7 @@ pub fn beside(a: Drawn, b: Drawn) -> Drawn
     ensures { result ≡ drawing.beside a b }
 {
     Drawn {
-        height: higher(a.height, b.height),
+        height: a.height.max(b.height),
         nodes: plus(a.nodes, b.nodes),
         at: b.at,
     }

@@ -1,4 +1,5 @@
 -- From what the code reads of a goal at its spot (its word, and where its first part ends) to what a node says there.
+use Rattle.std.specs.Prelude.{Some, None, Option}
 use Prim.Native.Nat.{ℕ, ◌+◌, ◌≤◌}
 use native.Mathlib.Omega.{arith}
 use mathlib.Core.Path.{◌≡◌, refl, sym, ◌∙◌, ap, subst}
@@ -27,6 +28,7 @@ use Rattle.reader.specs.WordAt.{WordAt}
 use Rattle.packet.specs.Written.{number, goal_sexp}
 use Rattle.packet.specs.declared.Word.{Word}
 use Rattle.packet.specs.declared.Word.TheVariants as W
+use Rattle.room.specs.Files.{Files}
 use Rattle.room.specs.Frame.{binding_word, held}
 use Rattle.room.specs.Layout.{candidates_word, highest_word}
 use Rattle.room.proofs.FrameLaws.{held_same}
@@ -35,7 +37,7 @@ use Rattle.room.specs.Spot.{supposing}
 use Rattle.room.specs.declared.Where.{Where}
 use Rattle.room.proofs.WhereLaws.{file}
 use Rattle.uses.specs.Heads.{strip_word, goal_word, NodeShape}
-use Rattle.uses.specs.Walk.{Files, Framed, Ready, Enters, plus, further, within, bound, supposes}
+use Rattle.uses.specs.Walk.{Framed, Ready, Enters, plus, further, within, bound, supposes}
 use Rattle.uses.specs.declared.Entered.{Entered}
 use Rattle.uses.specs.declared.Entered.TheVariants as E
 use Rattle.uses.proofs.HeadLaws.{part-stands, strip-says, goal-says, node-shape, shape_is, rank-once, not_top, not-and, not-or, not_some, not-all, not-imp}
@@ -47,27 +49,27 @@ use Rattle.uses.proofs.NodeLaws.{heads, first_part, top-fits, and-fits, left-fit
 pub node-is : (P : Strip) {v : Word} → strip_word P ≡ v → NodeShape v P
 node-is P e = subst (λ (v : Word). NodeShape v P) e (node-shape P)
 
-ranked-node : (P : Strip) (n : ℕ) → n ≡ rank (strip_word P) → (n ≡ 4 → ⊥) → (n ≡ 5 → ⊥) → (n ≡ 7 → ⊥) → (n ≡ 8 → ⊥) → (n ≡ 9 → ⊥) → (n ≡ 10 → ⊥) → (n ≡ 11 → ⊥) → (n ≡ 12 → ⊥) → ⊥
-unfolding strip_word rank
-ranked-node Strip.top n e a b c d f g h i = a e
-ranked-node (Strip.and P R) n e a b c d f g h i = b e
-ranked-node (Strip.left P) n e a b c d f g h i = g e
-ranked-node (Strip.right P) n e a b c d f g h i = h e
-ranked-node (Strip.some j P) n e a b c d f g h i = c e
-ranked-node (Strip.all P) n e a b c d f g h i = d e
-ranked-node (Strip.imp P) n e a b c d f g h i = f e
-ranked-node (Strip.use₀ k path) n e a b c d f g h i = i e
-ranked-node (Strip.use₁ k path P) n e a b c d f g h i = i e
+a-node : (P : Strip) (v : Word) → v ≡ strip_word P → (v ≡ W.Top → ⊥) → (v ≡ W.And → ⊥) → (v ≡ W.Some → ⊥) → (v ≡ W.All → ⊥) → (v ≡ W.Imp → ⊥) → (v ≡ W.Left → ⊥) → (v ≡ W.Right → ⊥) → (v ≡ W.Use → ⊥) → ⊥
+unfolding strip_word
+a-node Strip.top v e a b c d f g h i = a e
+a-node (Strip.and P R) v e a b c d f g h i = b e
+a-node (Strip.left P) v e a b c d f g h i = g e
+a-node (Strip.right P) v e a b c d f g h i = h e
+a-node (Strip.some j P) v e a b c d f g h i = c e
+a-node (Strip.all P) v e a b c d f g h i = d e
+a-node (Strip.imp P) v e a b c d f g h i = f e
+a-node (Strip.use₀ k path) v e a b c d f g h i = i e
+a-node (Strip.use₁ k path P) v e a b c d f g h i = i e
 
 -- equal parts, equal answers
-pub one_alike : {a b : ℕ} {x y : Where} → a ≡ b → x ≡ y → E.One a x ≡ E.One b y
+pub one_alike : {a b : ℕ} {x y : Where} → a ≡ b → x ≡ y → Some (E.One a x) ≡ Some (E.One b y)
 one_alike p q = cc
 
-pub two-alike : {a b : ℕ} {x y x' y' : Where} → a ≡ b → x ≡ y → x' ≡ y' → E.Two a x x' ≡ E.Two b y y'
+pub two-alike : {a b : ℕ} {x y x' y' : Where} → a ≡ b → x ≡ y → x' ≡ y' → Some (E.Two a x x') ≡ Some (E.Two b y y')
 two-alike p q r = cc
 
 -- what is said of a room and an answer is said of equal ones
-pub says-as : {f : Files} {ss room after after' : List ℕ} {ds : List (Clause Plain)} {us : List Term} {w : Where} {at : ℕ} {P : Strip} {j : Judged} {r e : Entered} → after ≡ after' → r ≡ e → Enters f ss room after' ds us w at P j e → Enters f ss room after ds us w at P j r
+pub says-as : {f : Files} {ss room after after' : List ℕ} {ds : List (Clause Plain)} {us : List Term} {w : Where} {at : ℕ} {P : Strip} {j : Judged} {r e : Option Entered} → after ≡ after' → r ≡ e → Enters f ss room after' ds us w at P j e → Enters f ss room after ds us w at P j r
 says-as {f} {ss} {room} {after} {after'} {ds} {us} {w} {at} {P} {j} {r} {e} p q x = subst (λ (y : List ℕ). Enters f ss room y ds us w at P j r) (sym p) (enter-is (sym q) x)
 
 -- what was read at an offset that is known by another name
@@ -85,7 +87,7 @@ nothing-from {s} p h e st n = h e (subst (λ (j : ℕ). Stands s j e) (sym p) st
 
 module _ {f : Files} {ss room : List ℕ} {ds : List (Clause Plain)} {us : List Term} {w : Where} {at nest : ℕ} {o : List Plain} {c : Hand Plain} {bs : Bindings} where
   -- an answer for the node and the goal that are known to be there
-  pub as-known : {after : List ℕ} {P P₀ : Strip} {g g₀ : Goal Plain} {r : Entered} → P ≡ P₀ → g ≡ g₀ → (Ready f ss room ds us w at nest P₀ o c bs g₀ → Enters f ss room after ds us w at P₀ (check (listed us) P₀ o c bs g₀) r) → Ready f ss room ds us w at nest P o c bs g → Enters f ss room after ds us w at P (check (listed us) P o c bs g) r
+  pub as-known : {after : List ℕ} {P P₀ : Strip} {g g₀ : Goal Plain} {r : Option Entered} → P ≡ P₀ → g ≡ g₀ → (Ready f ss room ds us w at nest P₀ o c bs g₀ → Enters f ss room after ds us w at P₀ (check (listed us) P₀ o c bs g₀) r) → Ready f ss room ds us w at nest P o c bs g → Enters f ss room after ds us w at P (check (listed us) P o c bs g) r
   as-known {after} {P} {P₀} {g} {g₀} {r} e d k x =
       subst (λ (y : Goal Plain). Enters f ss room after ds us w at P (check (listed us) P o c bs y) r) (sym d)
       (subst (λ (Y : Strip). Enters f ss room after ds us w at Y (check (listed us) Y o c bs g₀) r) (sym e) (k (subst (λ (y : Goal Plain). Ready f ss room ds us w at nest P₀ o c bs y) d (subst (λ (Y : Strip). Ready f ss room ds us w at nest Y o c bs g) e x))))
@@ -95,83 +97,83 @@ module _ {f : Files} {ss room : List ℕ} {ds : List (Clause Plain)} {us : List 
   word_read {g = g} {v} x a = goal-says (drop w.goal.at (file x.place)) 0 g v (part-stands x.place.framed.stands) a
 
   -- the goal has another word: the node does not fit
-  pub misfit-known : {P P₀ : Strip} {g : Goal Plain} → Ready f ss room ds us w at nest P o c bs g → P ≡ P₀ → check (listed us) P₀ o c bs g ≡ here → Enters f ss room room ds us w at P (check (listed us) P o c bs g) E.Misfit
-  misfit-known {P} {P₀} {g} x e h = subst (λ (Y : Strip). Enters f ss room room ds us w at Y (check (listed us) Y o c bs g) E.Misfit) (sym e) (enters-misfit h)
+  pub misfit-known : {P P₀ : Strip} {g : Goal Plain} → Ready f ss room ds us w at nest P o c bs g → P ≡ P₀ → check (listed us) P₀ o c bs g ≡ here → Enters f ss room room ds us w at P (check (listed us) P o c bs g) None
+  misfit-known {P} {P₀} {g} x e h = subst (λ (Y : Strip). Enters f ss room room ds us w at Y (check (listed us) Y o c bs g) None) (sym e) (enters-misfit h)
 
   -- a sum of offsets in the strip is exact
   pub strip-plus : {P : Strip} {g : Goal Plain} (k : ℕ) → Ready f ss room ds us w at nest P o c bs g → k ≤ 16384 → plus at k ≡ at + k
   strip-plus k x l = let i = stands-inside x.stands in omega (arith, x.small)
 
-  pub top-other : {P : Strip} {g : Goal Plain} {v : Word} → strip_word P ≡ W.Top → (x : Ready f ss room ds us w at nest P o c bs g) → WordAt (drop w.goal.at (file x.place)) 1 v → (rank v ≡ rank W.Top → ⊥) → Enters f ss room room ds us w at P (check (listed us) P o c bs g) E.Misfit
-  top-other {P} {g} q x a n = misfit-known x (node-is P q) (rw (not_top g (λ e. n (ap rank (word_read x a) ∙ e))) refl)
+  pub top-other : {P : Strip} {g : Goal Plain} {v : Word} → strip_word P ≡ W.Top → (x : Ready f ss room ds us w at nest P o c bs g) → WordAt (drop w.goal.at (file x.place)) 1 v → (v ≡ W.Top → ⊥) → Enters f ss room room ds us w at P (check (listed us) P o c bs g) None
+  top-other {P} {g} {v} q x a n = misfit-known x (node-is P q) (rw (not_top g (λ e. n (rank-once v W.Top (ap rank (word_read x a) ∙ e)))) refl)
 
-  pub and-other : {P : Strip} {g : Goal Plain} {v : Word} → strip_word P ≡ W.And → (x : Ready f ss room ds us w at nest P o c bs g) → WordAt (drop w.goal.at (file x.place)) 1 v → (rank v ≡ rank W.And → ⊥) → Enters f ss room room ds us w at P (check (listed us) P o c bs g) E.Misfit
-  and-other {P} {g} q x a n = misfit-known x (node-is P q).2 (rw (not-and g (λ e. n (ap rank (word_read x a) ∙ e))) refl)
+  pub and-other : {P : Strip} {g : Goal Plain} {v : Word} → strip_word P ≡ W.And → (x : Ready f ss room ds us w at nest P o c bs g) → WordAt (drop w.goal.at (file x.place)) 1 v → (v ≡ W.And → ⊥) → Enters f ss room room ds us w at P (check (listed us) P o c bs g) None
+  and-other {P} {g} {v} q x a n = misfit-known x (node-is P q).2 (rw (not-and g (λ e. n (rank-once v W.And (ap rank (word_read x a) ∙ e)))) refl)
 
-  pub left_other : {P : Strip} {g : Goal Plain} {v : Word} → strip_word P ≡ W.Left → (x : Ready f ss room ds us w at nest P o c bs g) → WordAt (drop w.goal.at (file x.place)) 1 v → (rank v ≡ rank W.Or → ⊥) → Enters f ss room room ds us w at P (check (listed us) P o c bs g) E.Misfit
-  left_other {P} {g} q x a n = misfit-known x (node-is P q).1 (rw (not-or g (λ e. n (ap rank (word_read x a) ∙ e))) refl)
+  pub left_other : {P : Strip} {g : Goal Plain} {v : Word} → strip_word P ≡ W.Left → (x : Ready f ss room ds us w at nest P o c bs g) → WordAt (drop w.goal.at (file x.place)) 1 v → (v ≡ W.Or → ⊥) → Enters f ss room room ds us w at P (check (listed us) P o c bs g) None
+  left_other {P} {g} {v} q x a n = misfit-known x (node-is P q).1 (rw (not-or g (λ e. n (rank-once v W.Or (ap rank (word_read x a) ∙ e)))) refl)
 
-  pub right-other : {P : Strip} {g : Goal Plain} {v : Word} → strip_word P ≡ W.Right → (x : Ready f ss room ds us w at nest P o c bs g) → WordAt (drop w.goal.at (file x.place)) 1 v → (rank v ≡ rank W.Or → ⊥) → Enters f ss room room ds us w at P (check (listed us) P o c bs g) E.Misfit
-  right-other {P} {g} q x a n = misfit-known x (node-is P q).1 (rw (not-or g (λ e. n (ap rank (word_read x a) ∙ e))) refl)
+  pub right-other : {P : Strip} {g : Goal Plain} {v : Word} → strip_word P ≡ W.Right → (x : Ready f ss room ds us w at nest P o c bs g) → WordAt (drop w.goal.at (file x.place)) 1 v → (v ≡ W.Or → ⊥) → Enters f ss room room ds us w at P (check (listed us) P o c bs g) None
+  right-other {P} {g} {v} q x a n = misfit-known x (node-is P q).1 (rw (not-or g (λ e. n (rank-once v W.Or (ap rank (word_read x a) ∙ e)))) refl)
 
-  pub all-other : {P : Strip} {g : Goal Plain} {v : Word} → strip_word P ≡ W.All → (x : Ready f ss room ds us w at nest P o c bs g) → WordAt (drop w.goal.at (file x.place)) 1 v → (rank v ≡ rank W.All → ⊥) → Enters f ss room room ds us w at P (check (listed us) P o c bs g) E.Misfit
-  all-other {P} {g} q x a n = misfit-known x (node-is P q).1 (rw (not-all g (λ e. n (ap rank (word_read x a) ∙ e))) refl)
+  pub all-other : {P : Strip} {g : Goal Plain} {v : Word} → strip_word P ≡ W.All → (x : Ready f ss room ds us w at nest P o c bs g) → WordAt (drop w.goal.at (file x.place)) 1 v → (v ≡ W.All → ⊥) → Enters f ss room room ds us w at P (check (listed us) P o c bs g) None
+  all-other {P} {g} {v} q x a n = misfit-known x (node-is P q).1 (rw (not-all g (λ e. n (rank-once v W.All (ap rank (word_read x a) ∙ e)))) refl)
 
-  pub imp-other : {P : Strip} {g : Goal Plain} {v : Word} → strip_word P ≡ W.Imp → (x : Ready f ss room ds us w at nest P o c bs g) → WordAt (drop w.goal.at (file x.place)) 1 v → (rank v ≡ rank W.Imp → ⊥) → Enters f ss room room ds us w at P (check (listed us) P o c bs g) E.Misfit
-  imp-other {P} {g} q x a n = misfit-known x (node-is P q).1 (rw (not-imp g (λ e. n (ap rank (word_read x a) ∙ e))) refl)
+  pub imp-other : {P : Strip} {g : Goal Plain} {v : Word} → strip_word P ≡ W.Imp → (x : Ready f ss room ds us w at nest P o c bs g) → WordAt (drop w.goal.at (file x.place)) 1 v → (v ≡ W.Imp → ⊥) → Enters f ss room room ds us w at P (check (listed us) P o c bs g) None
+  imp-other {P} {g} {v} q x a n = misfit-known x (node-is P q).1 (rw (not-imp g (λ e. n (rank-once v W.Imp (ap rank (word_read x a) ∙ e)))) refl)
 
-  pub top-same : {P : Strip} {g : Goal Plain} {v : Word} → strip_word P ≡ W.Top → (x : Ready f ss room ds us w at nest P o c bs g) → WordAt (drop w.goal.at (file x.place)) 1 v → rank v ≡ rank W.Top → Enters f ss room room ds us w at P (check (listed us) P o c bs g) (E.Leaf (plus at 7))
-  top-same {P} {g} {v} q x a n = enter-is (ap E.Leaf (sym (strip-plus 7 x (omega arith)))) (as-known (node-is P q) (shape_is g (sym (word_read x a) ∙ rank-once v W.Top n)) (λ y. top-fits y) x)
+  pub top-same : {P : Strip} {g : Goal Plain} {v : Word} → strip_word P ≡ W.Top → (x : Ready f ss room ds us w at nest P o c bs g) → WordAt (drop w.goal.at (file x.place)) 1 v → v ≡ W.Top → Enters f ss room room ds us w at P (check (listed us) P o c bs g) (Some (E.Leaf (plus at 7)))
+  top-same {P} {g} {v} q x a n = enter-is (ap (λ (i : ℕ). Some (E.Leaf i)) (sym (strip-plus 7 x (omega arith)))) (as-known (node-is P q) (shape_is g (sym (word_read x a) ∙ n)) (λ y. top-fits y) x)
 
-  pub left-same : {P : Strip} {g : Goal Plain} {v : Word} → strip_word P ≡ W.Left → (x : Ready f ss room ds us w at nest P o c bs g) → WordAt (drop w.goal.at (file x.place)) 1 v → rank v ≡ rank W.Or → Enters f ss room room ds us w at P (check (listed us) P o c bs g) (E.One (plus at 7) (within w 5))
+  pub left-same : {P : Strip} {g : Goal Plain} {v : Word} → strip_word P ≡ W.Left → (x : Ready f ss room ds us w at nest P o c bs g) → WordAt (drop w.goal.at (file x.place)) 1 v → v ≡ W.Or → Enters f ss room room ds us w at P (check (listed us) P o c bs g) (Some (E.One (plus at 7) (within w 5)))
   left-same {P} {g} {v} q x a n =
-      let k = shape_is g (sym (word_read x a) ∙ rank-once v W.Or n) in
-      enter-is (ap (λ (i : ℕ). E.One i (within w 5)) (sym (strip-plus 7 x (omega arith)))) (as-known (node-is P q).1 k.2 (λ y. left-fits y) x)
+      let k = shape_is g (sym (word_read x a) ∙ n) in
+      enter-is (ap (λ (i : ℕ). Some (E.One i (within w 5))) (sym (strip-plus 7 x (omega arith)))) (as-known (node-is P q).1 k.2 (λ y. left-fits y) x)
 
-  pub all_same : {P : Strip} {g : Goal Plain} {v : Word} → strip_word P ≡ W.All → (x : Ready f ss room ds us w at nest P o c bs g) → WordAt (drop w.goal.at (file x.place)) 1 v → rank v ≡ rank W.All → Enters f ss room (set room w.top (held (binding_word (Parameter (w.parameters + 1))))) ds us w at P (check (listed us) P o c bs g) (E.One (plus at 6) (bound w 6 (w.parameters + 1)))
+  pub all_same : {P : Strip} {g : Goal Plain} {v : Word} → strip_word P ≡ W.All → (x : Ready f ss room ds us w at nest P o c bs g) → WordAt (drop w.goal.at (file x.place)) 1 v → v ≡ W.All → Enters f ss room (set room w.top (held (binding_word (Parameter (w.parameters + 1))))) ds us w at P (check (listed us) P o c bs g) (Some (E.One (plus at 6) (bound w 6 (w.parameters + 1))))
   all_same {P} {g} {v} q x a n =
-      let k = shape_is g (sym (word_read x a) ∙ rank-once v W.All n) in
-      enter-is (ap (λ (i : ℕ). E.One i (bound w 6 (w.parameters + 1))) (sym (strip-plus 6 x (omega arith)))) (as-known (node-is P q).1 k.2 (λ y. all-fits y) x)
+      let k = shape_is g (sym (word_read x a) ∙ n) in
+      enter-is (ap (λ (i : ℕ). Some (E.One i (bound w 6 (w.parameters + 1)))) (sym (strip-plus 6 x (omega arith)))) (as-known (node-is P q).1 k.2 (λ y. all-fits y) x)
 
-  pub and_same : {P : Strip} {g : Goal Plain} {v : Word} {m : ℕ} → strip_word P ≡ W.And → (x : Ready f ss room ds us w at nest P o c bs g) → WordAt (drop w.goal.at (file x.place)) 1 v → rank v ≡ rank W.And → Ends (drop w.goal.at (file x.place)) 6 64 m → Enters f ss room room ds us w at P (check (listed us) P o c bs g) (E.Two (plus at 6) (within w 6) (within w m))
+  pub and_same : {P : Strip} {g : Goal Plain} {v : Word} {m : ℕ} → strip_word P ≡ W.And → (x : Ready f ss room ds us w at nest P o c bs g) → WordAt (drop w.goal.at (file x.place)) 1 v → v ≡ W.And → Ends (drop w.goal.at (file x.place)) 6 64 m → Enters f ss room room ds us w at P (check (listed us) P o c bs g) (Some (E.Two (plus at 6) (within w 6) (within w m)))
   and_same {P} {g} {v} {m} q x a n ends =
-      let k = shape_is g (sym (word_read x a) ∙ rank-once v W.And n) in
+      let k = shape_is g (sym (word_read x a) ∙ n) in
       let y = subst (λ (h : Goal Plain). Stands (file x.place) w.goal.at (goal_sexp h)) k.2 x.place.framed.stands in
       let e = ends-here (first_part (octets "and") heads.1.0 (part-stands y)) ends in
-      enter-is (ap (λ (i : ℕ). E.Two i (within w 6) (within w m)) (sym (strip-plus 6 x (omega arith)))) (as-known (node-is P q).2 k.2 (λ z. and-fits z e) x)
+      enter-is (ap (λ (i : ℕ). Some (E.Two i (within w 6) (within w m))) (sym (strip-plus 6 x (omega arith)))) (as-known (node-is P q).2 k.2 (λ z. and-fits z e) x)
 
-  pub right-same : {P : Strip} {g : Goal Plain} {v : Word} {m : ℕ} → strip_word P ≡ W.Right → (x : Ready f ss room ds us w at nest P o c bs g) → WordAt (drop w.goal.at (file x.place)) 1 v → rank v ≡ rank W.Or → Ends (drop w.goal.at (file x.place)) 5 64 m → Enters f ss room room ds us w at P (check (listed us) P o c bs g) (E.One (plus at 8) (within w m))
+  pub right-same : {P : Strip} {g : Goal Plain} {v : Word} {m : ℕ} → strip_word P ≡ W.Right → (x : Ready f ss room ds us w at nest P o c bs g) → WordAt (drop w.goal.at (file x.place)) 1 v → v ≡ W.Or → Ends (drop w.goal.at (file x.place)) 5 64 m → Enters f ss room room ds us w at P (check (listed us) P o c bs g) (Some (E.One (plus at 8) (within w m)))
   right-same {P} {g} {v} {m} q x a n ends =
-      let k = shape_is g (sym (word_read x a) ∙ rank-once v W.Or n) in
+      let k = shape_is g (sym (word_read x a) ∙ n) in
       let y = subst (λ (h : Goal Plain). Stands (file x.place) w.goal.at (goal_sexp h)) k.2 x.place.framed.stands in
       let e = ends-here (first_part (octets "or") heads.1.1.0 (part-stands y)) ends in
-      enter-is (ap (λ (i : ℕ). E.One i (within w m)) (sym (strip-plus 8 x (omega arith)))) (as-known (node-is P q).1 k.2 (λ z. right-fits z e) x)
+      enter-is (ap (λ (i : ℕ). Some (E.One i (within w m))) (sym (strip-plus 8 x (omega arith)))) (as-known (node-is P q).1 k.2 (λ z. right-fits z e) x)
 
-  pub imp-same : {P : Strip} {g : Goal Plain} {v : Word} {m : ℕ} → strip_word P ≡ W.Imp → (x : Ready f ss room ds us w at nest P o c bs g) → WordAt (drop w.goal.at (file x.place)) 1 v → rank v ≡ rank W.Imp → Ends (drop w.goal.at (file x.place)) 6 64 m → Enters f ss room (supposing room w.supposed (further w.goal 6)) ds us w at P (check (listed us) P o c bs g) (E.One (plus at 6) (supposes w m))
+  pub imp-same : {P : Strip} {g : Goal Plain} {v : Word} {m : ℕ} → strip_word P ≡ W.Imp → (x : Ready f ss room ds us w at nest P o c bs g) → WordAt (drop w.goal.at (file x.place)) 1 v → v ≡ W.Imp → Ends (drop w.goal.at (file x.place)) 6 64 m → Enters f ss room (supposing room w.supposed (further w.goal 6)) ds us w at P (check (listed us) P o c bs g) (Some (E.One (plus at 6) (supposes w m)))
   imp-same {P} {g} {v} {m} q x a n ends =
-      let k = shape_is g (sym (word_read x a) ∙ rank-once v W.Imp n) in
+      let k = shape_is g (sym (word_read x a) ∙ n) in
       let y = subst (λ (h : Goal Plain). Stands (file x.place) w.goal.at (goal_sexp h)) k.2 x.place.framed.stands in
       let e = ends-here (first_part (octets "imp") heads.1.1.1.1.1.1.1.0 (part-stands y)) ends in
-      enter-is (ap (λ (i : ℕ). E.One i (supposes w m)) (sym (strip-plus 6 x (omega arith)))) (as-known (node-is P q).1 k.2 (λ z. imp-fits z e) x)
+      enter-is (ap (λ (i : ℕ). Some (E.One i (supposes w m))) (sym (strip-plus 6 x (omega arith)))) (as-known (node-is P q).1 k.2 (λ z. imp-fits z e) x)
 
   -- the first part is always there
-  pub and-never : {P : Strip} {g : Goal Plain} {v : Word} → strip_word P ≡ W.And → (x : Ready f ss room ds us w at nest P o c bs g) → WordAt (drop w.goal.at (file x.place)) 1 v → rank v ≡ rank W.And → ((e : Sexp) → Stands (drop w.goal.at (file x.place)) 6 e → nesting e ≤ 64 → ⊥) → ⊥
+  pub and-never : {P : Strip} {g : Goal Plain} {v : Word} → strip_word P ≡ W.And → (x : Ready f ss room ds us w at nest P o c bs g) → WordAt (drop w.goal.at (file x.place)) 1 v → v ≡ W.And → ((e : Sexp) → Stands (drop w.goal.at (file x.place)) 6 e → nesting e ≤ 64 → ⊥) → ⊥
   and-never {P} {g} {v} q x a n never =
-      let k = shape_is g (sym (word_read x a) ∙ rank-once v W.And n) in
+      let k = shape_is g (sym (word_read x a) ∙ n) in
       let y = subst (λ (h : Goal Plain). Framed f room w.goal w.top (goal_sexp h) bs) k.2 x.place.framed in
       never _ (first_part (octets "and") heads.1.0 (part-stands y.stands)) (omega (arith, y.shallow))
 
   -- the first part is always there
-  pub right-never : {P : Strip} {g : Goal Plain} {v : Word} → strip_word P ≡ W.Right → (x : Ready f ss room ds us w at nest P o c bs g) → WordAt (drop w.goal.at (file x.place)) 1 v → rank v ≡ rank W.Or → ((e : Sexp) → Stands (drop w.goal.at (file x.place)) 5 e → nesting e ≤ 64 → ⊥) → ⊥
+  pub right-never : {P : Strip} {g : Goal Plain} {v : Word} → strip_word P ≡ W.Right → (x : Ready f ss room ds us w at nest P o c bs g) → WordAt (drop w.goal.at (file x.place)) 1 v → v ≡ W.Or → ((e : Sexp) → Stands (drop w.goal.at (file x.place)) 5 e → nesting e ≤ 64 → ⊥) → ⊥
   right-never {P} {g} {v} q x a n never =
-      let k = shape_is g (sym (word_read x a) ∙ rank-once v W.Or n) in
+      let k = shape_is g (sym (word_read x a) ∙ n) in
       let y = subst (λ (h : Goal Plain). Framed f room w.goal w.top (goal_sexp h) bs) k.2 x.place.framed in
       never _ (first_part (octets "or") heads.1.1.0 (part-stands y.stands)) (omega (arith, y.shallow))
 
   -- the first part is always there
-  pub imp-never : {P : Strip} {g : Goal Plain} {v : Word} → strip_word P ≡ W.Imp → (x : Ready f ss room ds us w at nest P o c bs g) → WordAt (drop w.goal.at (file x.place)) 1 v → rank v ≡ rank W.Imp → ((e : Sexp) → Stands (drop w.goal.at (file x.place)) 6 e → nesting e ≤ 64 → ⊥) → ⊥
+  pub imp-never : {P : Strip} {g : Goal Plain} {v : Word} → strip_word P ≡ W.Imp → (x : Ready f ss room ds us w at nest P o c bs g) → WordAt (drop w.goal.at (file x.place)) 1 v → v ≡ W.Imp → ((e : Sexp) → Stands (drop w.goal.at (file x.place)) 6 e → nesting e ≤ 64 → ⊥) → ⊥
   imp-never {P} {g} {v} q x a n never =
-      let k = shape_is g (sym (word_read x a) ∙ rank-once v W.Imp n) in
+      let k = shape_is g (sym (word_read x a) ∙ n) in
       let y = subst (λ (h : Goal Plain). Framed f room w.goal w.top (goal_sexp h) bs) k.2 x.place.framed in
       never _ (first_part (octets "imp") heads.1.1.1.1.1.1.1.0 (part-stands y.stands)) (omega (arith, y.shallow))
 
@@ -179,11 +181,11 @@ module _ {f : Files} {ss room : List ℕ} {ds : List (Clause Plain)} {us : List 
   pub all-never : {P : Strip} {g : Goal Plain} → Ready f ss room ds us w at nest P o c bs g → 64 ≤ w.parameters → ⊥
   all-never {P} x l = let z = strip-nests P in omega (arith, x.nests, x.enough.opened)
 
-  pub some-other : {P : Strip} {g : Goal Plain} {v : Word} → strip_word P ≡ W.Some → (x : Ready f ss room ds us w at nest P o c bs g) → WordAt (drop w.goal.at (file x.place)) 1 v → (rank v ≡ rank W.Some → ⊥) → Enters f ss room room ds us w at P (check (listed us) P o c bs g) E.Misfit
-  some-other {P} {g} q x a n = misfit-known x (node-is P q).2 (rw (not_some g (λ e. n (ap rank (word_read x a) ∙ e))) refl)
+  pub some-other : {P : Strip} {g : Goal Plain} {v : Word} → strip_word P ≡ W.Some → (x : Ready f ss room ds us w at nest P o c bs g) → WordAt (drop w.goal.at (file x.place)) 1 v → (v ≡ W.Some → ⊥) → Enters f ss room room ds us w at P (check (listed us) P o c bs g) None
+  some-other {P} {g} {v} q x a n = misfit-known x (node-is P q).2 (rw (not_some g (λ e. n (rank-once v W.Some (ap rank (word_read x a) ∙ e)))) refl)
 
   -- a candidate that may not be used
-  pub some-barred : {i : ℕ} {X : Strip} {q : Plain} {a : Goal Plain} → Ready f ss room ds us w at nest (Strip.some i X) o c bs (Goal.some q a) → allowed (listed us) o q i ≡ false → Enters f ss room room ds us w at (Strip.some i X) (check (listed us) (Strip.some i X) o c bs (Goal.some q a)) E.Misfit
+  pub some-barred : {i : ℕ} {X : Strip} {q : Plain} {a : Goal Plain} → Ready f ss room ds us w at nest (Strip.some i X) o c bs (Goal.some q a) → allowed (listed us) o q i ≡ false → Enters f ss room room ds us w at (Strip.some i X) (check (listed us) (Strip.some i X) o c bs (Goal.some q a)) None
   some-barred x e = enters-misfit (rw e refl)
 
   -- the number that was read is the node's
@@ -206,46 +208,42 @@ module _ {f : Files} {ss room : List ℕ} {ds : List (Clause Plain)} {us : List 
   pub some-may : {P : Strip} {g : Goal Plain} (i : ℕ) (q : Plain) → (x : Ready f ss room ds us w at nest P o c bs g) → (ltb i (get_or room candidates_word 0) && leb (get_or room (highest_word i) 0) w.parameters) ≡ allowed (listed us) o q i
   some-may i q x = subst (λ (p : ℕ). (ltb i (get_or room candidates_word 0) && leb (get_or room (highest_word i) 0) p) ≡ allowed (listed us) o q i) x.place.openly (table-allowed room f.terms us o q i x.place.booked.candidates)
 
-  pub some_same : {P : Strip} {g : Goal Plain} {v : Word} {k start : ℕ} → strip_word P ≡ W.Some → (x : Ready f ss room ds us w at nest P o c bs g) → WordAt (drop w.goal.at (file x.place)) 1 v → rank v ≡ rank W.Some → Numeral ss (plus at 7) k → (ltb k (get_or room candidates_word 0) && leb (get_or room (highest_word k) 0) w.parameters) ≡ true → Ends ss (plus at 7) 0 start → Enters f ss room (set room w.top (held (binding_word (Candidate (held k))))) ds us w at P (check (listed us) P o c bs g) (E.One start (bound w 7 w.parameters))
+  pub some_same : {P : Strip} {g : Goal Plain} {v : Word} {k start : ℕ} → strip_word P ≡ W.Some → (x : Ready f ss room ds us w at nest P o c bs g) → WordAt (drop w.goal.at (file x.place)) 1 v → v ≡ W.Some → Numeral ss (plus at 7) k → (ltb k (get_or room candidates_word 0) && leb (get_or room (highest_word k) 0) w.parameters) ≡ true → Ends ss (plus at 7) 0 start → Enters f ss room (set room w.top (held (binding_word (Candidate (held k))))) ds us w at P (check (listed us) P o c bs g) (Some (E.One start (bound w 7 w.parameters)))
   some_same {P} {g} {v} {k} {start} q x a n num may ends =
       let (i, X, e) = node-is P q in
-      let (r, b, d) = shape_is g (sym (word_read x a) ∙ rank-once v W.Some n) in
+      let (r, b, d) = shape_is g (sym (word_read x a) ∙ n) in
       as-known e d (λ y. found y) x
     where
-      found : {i : ℕ} {X : Strip} {r : Plain} {b : Goal Plain} → Ready f ss room ds us w at nest (Strip.some i X) o c bs (Goal.some r b) → Enters f ss room (set room w.top (held (binding_word (Candidate (held k))))) ds us w at (Strip.some i X) (check (listed us) (Strip.some i X) o c bs (Goal.some r b)) (E.One start (bound w 7 w.parameters))
+      found : {i : ℕ} {X : Strip} {r : Plain} {b : Goal Plain} → Ready f ss room ds us w at nest (Strip.some i X) o c bs (Goal.some r b) → Enters f ss room (set room w.top (held (binding_word (Candidate (held k))))) ds us w at (Strip.some i X) (check (listed us) (Strip.some i X) o c bs (Goal.some r b)) (Some (E.One start (bound w 7 w.parameters)))
       found {i} {X} {r} {b} y =
           let same = some_number y num in
           let small = held_same k (omega (arith, (numeral-stands num).0)) in
           let st = strip-plus 7 y (omega arith) in
           let here' = first_part (octets "some") heads.1.1.1.1.1.0 y.stands in
           let at' = ends-here (subst (λ (j : ℕ). Stands ss j (number i)) (sym st) here') ends in
-          subst (λ (j : ℕ). Enters f ss room (set room w.top (held (binding_word (Candidate j)))) ds us w at (Strip.some i X) (check (listed us) (Strip.some i X) o c bs (Goal.some r b)) (E.One start (bound w 7 w.parameters))) (sym same ∙ sym small)
+          subst (λ (j : ℕ). Enters f ss room (set room w.top (held (binding_word (Candidate j)))) ds us w at (Strip.some i X) (check (listed us) (Strip.some i X) o c bs (Goal.some r b)) (Some (E.One start (bound w 7 w.parameters)))) (sym same ∙ sym small)
           (some_fits y (sym (some-may i r y) ∙ subst (λ (j : ℕ). (ltb j (get_or room candidates_word 0) && leb (get_or room (highest_word j) 0) w.parameters) ≡ true) same may) (omega arith))
 
   -- the answers without a part
-  pub some-nothing : {P : Strip} {g : Goal Plain} {v : Word} → strip_word P ≡ W.Some → (x : Ready f ss room ds us w at nest P o c bs g) → WordAt (drop w.goal.at (file x.place)) 1 v → rank v ≡ rank W.Some → ((u : List ℕ) → Stands ss (plus at 7) (Sexp.str u) → is_number u ≡ true → ⊥) → Enters f ss room room ds us w at P (check (listed us) P o c bs g) E.Misfit
+  pub some-nothing : {P : Strip} {g : Goal Plain} {v : Word} → strip_word P ≡ W.Some → (x : Ready f ss room ds us w at nest P o c bs g) → WordAt (drop w.goal.at (file x.place)) 1 v → v ≡ W.Some → ((u : List ℕ) → Stands ss (plus at 7) (Sexp.str u) → is_number u ≡ true → ⊥) → Enters f ss room room ds us w at P (check (listed us) P o c bs g) None
   some-nothing {P} {g} {v} q x a n never =
       let (i, X, e) = node-is P q in
-      let (r, b, d) = shape_is g (sym (word_read x a) ∙ rank-once v W.Some n) in
+      let (r, b, d) = shape_is g (sym (word_read x a) ∙ n) in
       as-known e d (λ y. some-barred y (some-beyond y never)) x
 
-  pub some-refused : {P : Strip} {g : Goal Plain} {v : Word} {k : ℕ} → strip_word P ≡ W.Some → (x : Ready f ss room ds us w at nest P o c bs g) → WordAt (drop w.goal.at (file x.place)) 1 v → rank v ≡ rank W.Some → Numeral ss (plus at 7) k → (ltb k (get_or room candidates_word 0) && leb (get_or room (highest_word k) 0) w.parameters) ≡ false → Enters f ss room room ds us w at P (check (listed us) P o c bs g) E.Misfit
+  pub some-refused : {P : Strip} {g : Goal Plain} {v : Word} {k : ℕ} → strip_word P ≡ W.Some → (x : Ready f ss room ds us w at nest P o c bs g) → WordAt (drop w.goal.at (file x.place)) 1 v → v ≡ W.Some → Numeral ss (plus at 7) k → (ltb k (get_or room candidates_word 0) && leb (get_or room (highest_word k) 0) w.parameters) ≡ false → Enters f ss room room ds us w at P (check (listed us) P o c bs g) None
   some-refused {P} {g} {v} {k} q x a n num may =
       let (i, X, e) = node-is P q in
-      let (r, b, d) = shape_is g (sym (word_read x a) ∙ rank-once v W.Some n) in
+      let (r, b, d) = shape_is g (sym (word_read x a) ∙ n) in
       as-known e d (λ y. some-barred y (sym (some-may i r y) ∙ subst (λ (j : ℕ). (ltb j (get_or room candidates_word 0) && leb (get_or room (highest_word j) 0) w.parameters) ≡ false) (some_number y num) may)) x
 
   pub some-never : {P : Strip} {g : Goal Plain} {k : ℕ} → strip_word P ≡ W.Some → Ready f ss room ds us w at nest P o c bs g → Numeral ss (plus at 7) k → ((e : Sexp) → Stands ss (plus at 7) e → nesting e ≤ 0 → ⊥) → ⊥
   some-never q x num never = never _ num.stands (omega arith)
 
   -- the word that was read is the node's
-  pub node-word : {P : Strip} {g : Goal Plain} {v : Word} {i n : ℕ} (k : Word) → Ready f ss room ds us w at nest P o c bs g → i ≡ plus at 1 → WordAt ss i v → n ≡ rank v → n ≡ rank k → strip_word P ≡ k
-  node-word {P} {g} {v} {i} k x e a p q =
-      let s = strip-says ss at P v x.stands (subst (λ (j : ℕ). WordAt ss j v) (e ∙ strip-plus 1 x (omega arith)) a) in
-      sym s ∙ rank-once v k (sym p ∙ q)
+  pub node-word : {P : Strip} {g : Goal Plain} {v : Word} {i : ℕ} (k : Word) → Ready f ss room ds us w at nest P o c bs g → i ≡ plus at 1 → WordAt ss i v → v ≡ k → strip_word P ≡ k
+  node-word {P} {g} {v} {i} k x e a q = sym (strip-says ss at P v x.stands (subst (λ (j : ℕ). WordAt ss j v) (e ∙ strip-plus 1 x (omega arith)) a)) ∙ q
 
   -- a node has one of the table's words for a node
-  pub no_node : {P : Strip} {g : Goal Plain} {v : Word} {i n : ℕ} → Ready f ss room ds us w at nest P o c bs g → i ≡ plus at 1 → WordAt ss i v → n ≡ rank v → (n ≡ 4 → ⊥) → (n ≡ 5 → ⊥) → (n ≡ 7 → ⊥) → (n ≡ 8 → ⊥) → (n ≡ 9 → ⊥) → (n ≡ 10 → ⊥) → (n ≡ 11 → ⊥) → (n ≡ 12 → ⊥) → ⊥
-  no_node {P} {g} {v} {i} {n} x e a p n₄ n₅ n₇ n₈ n₉ n₁₀ n₁₁ n₁₂ =
-      let s = strip-says ss at P v x.stands (subst (λ (j : ℕ). WordAt ss j v) (e ∙ strip-plus 1 x (omega arith)) a) in
-      ranked-node P n (p ∙ ap rank s) n₄ n₅ n₇ n₈ n₉ n₁₀ n₁₁ n₁₂
+  pub no_node : {P : Strip} {g : Goal Plain} {v : Word} {i : ℕ} → Ready f ss room ds us w at nest P o c bs g → i ≡ plus at 1 → WordAt ss i v → (v ≡ W.Top → ⊥) → (v ≡ W.And → ⊥) → (v ≡ W.Some → ⊥) → (v ≡ W.All → ⊥) → (v ≡ W.Imp → ⊥) → (v ≡ W.Left → ⊥) → (v ≡ W.Right → ⊥) → (v ≡ W.Use → ⊥) → ⊥
+  no_node {P} {g} {v} x e a = a-node P v (strip-says ss at P v x.stands (subst (λ (j : ℕ). WordAt ss j v) (e ∙ strip-plus 1 x (omega arith)) a))

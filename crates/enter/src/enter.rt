@@ -1,4 +1,5 @@
 // The nodes other than `use`, each judged at its own place without regard to its parts (document 01, "When a strip fits").
+// Kept: files, room and place stay parameters of their own. The room is written and comes back as another, the place is another at each call, and a struct of them would be made anew there.
 ghost use Rattle.std.specs.Prelude.{◌≡◌, List, ℕ};
 ghost use Rattle.harrop.specs.Formula.{Goal};
 ghost use Rattle.harrop.specs.Place.{Plain};
@@ -6,17 +7,18 @@ ghost use Rattle.packet.specs.Table as table;
 ghost use Rattle.packet.specs.declared.Word.TheVariants as W;
 ghost use Rattle.harrop.specs.declared.Binding.TheVariants.{Candidate};
 ghost use Rattle.room.specs.Frame.{held};
-ghost use Rattle.uses.specs.Walk.{EnteringAs, files_of};
+ghost use Rattle.uses.specs.Walk.{EnteringAs};
 
 use harrop::Binding;
 use packet::Word;
 use places::{bound, further, past_part, plus, supposes, within, word_there};
-use room::{Where, push, suppose};
-use sexp::{After, Value, number, past};
+use room::{Files, Where, hold, push, suppose};
+use sexp::{number, past};
 use start::may_use;
 use uses::Entered;
 
-// A word's place in the table's list of words, to compare words by.
+// A word's place in the table's list of words.
+// Kept: docs/DEMANDS.md and docs/EXCEPTIONS.md name it; nothing here goes by numbers of words.
 pub fn rank(w: Word) -> usize
     ensures { result ≡ table.rank w }
 {
@@ -41,170 +43,100 @@ pub fn rank(w: Word) -> usize
 }
 
 // `top` fits goal top.
-pub fn enter_top<'a>(
-    rules: &'a [u8],
-    goal: &'a [u8],
-    terms: &'a [u8],
-    at: usize,
-    w: Where,
-) -> Entered
-    ensures { (ss room : List ℕ) (nest : ℕ) → EnteringAs W.Top (files_of rules.now goal.now terms.now) ss room room at w nest result }
+pub fn enter_top(files: &Files, at: usize, w: Where) -> Option<Entered>
+    ensures { (ss room : List ℕ) (nest : ℕ) → EnteringAs W.Top files.now ss room room at w nest result }
 {
-    let x = w.goal;
-    if rank(word_there(rules, goal, terms, x)) != 4 {
-        return Entered::Misfit;
-    }
-    Entered::Leaf(plus(at, 7))
+    let Word::Top = word_there(files, w.goal) else {
+        return None;
+    };
+    Some(Entered::Leaf(plus(at, 7)))
 }
 
 // `and`: both parts of an `and`.
-pub fn enter_and<'a>(
-    rules: &'a [u8],
-    goal: &'a [u8],
-    terms: &'a [u8],
-    at: usize,
-    w: Where,
-) -> Entered
-    ensures { (ss room : List ℕ) (nest : ℕ) → EnteringAs W.And (files_of rules.now goal.now terms.now) ss room room at w nest result }
+pub fn enter_and(files: &Files, at: usize, w: Where) -> Option<Entered>
+    ensures { (ss room : List ℕ) (nest : ℕ) → EnteringAs W.And files.now ss room room at w nest result }
 {
-    let x = w.goal;
-    if rank(word_there(rules, goal, terms, x)) != 5 {
-        return Entered::Misfit;
-    }
-    match past_part(rules, goal, terms, x, 6) {
-        After::Nothing => Entered::Misfit,
-        After::Next(n) => Entered::Two(plus(at, 6), within(w, 6), within(w, n)),
-    }
+    let Word::And = word_there(files, w.goal) else {
+        return None;
+    };
+    let n = past_part(files, w.goal, 6)?;
+    Some(Entered::Two(plus(at, 6), within(w, 6), within(w, n)))
 }
 
 // `left`: the first part of an `or`.
-pub fn enter_left<'a>(
-    rules: &'a [u8],
-    goal: &'a [u8],
-    terms: &'a [u8],
-    at: usize,
-    w: Where,
-) -> Entered
-    ensures { (ss room : List ℕ) (nest : ℕ) → EnteringAs W.Left (files_of rules.now goal.now terms.now) ss room room at w nest result }
+pub fn enter_left(files: &Files, at: usize, w: Where) -> Option<Entered>
+    ensures { (ss room : List ℕ) (nest : ℕ) → EnteringAs W.Left files.now ss room room at w nest result }
 {
-    let x = w.goal;
-    if rank(word_there(rules, goal, terms, x)) != 6 {
-        return Entered::Misfit;
-    }
-    Entered::One(plus(at, 7), within(w, 5))
+    let Word::Or = word_there(files, w.goal) else {
+        return None;
+    };
+    Some(Entered::One(plus(at, 7), within(w, 5)))
 }
 
 // `right`: the second part of an `or`.
-pub fn enter_right<'a>(
-    rules: &'a [u8],
-    goal: &'a [u8],
-    terms: &'a [u8],
-    at: usize,
-    w: Where,
-) -> Entered
-    ensures { (ss room : List ℕ) (nest : ℕ) → EnteringAs W.Right (files_of rules.now goal.now terms.now) ss room room at w nest result }
+pub fn enter_right(files: &Files, at: usize, w: Where) -> Option<Entered>
+    ensures { (ss room : List ℕ) (nest : ℕ) → EnteringAs W.Right files.now ss room room at w nest result }
 {
-    let x = w.goal;
-    if rank(word_there(rules, goal, terms, x)) != 6 {
-        return Entered::Misfit;
-    }
-    match past_part(rules, goal, terms, x, 5) {
-        After::Nothing => Entered::Misfit,
-        After::Next(n) => Entered::One(plus(at, 8), within(w, n)),
-    }
+    let Word::Or = word_there(files, w.goal) else {
+        return None;
+    };
+    let n = past_part(files, w.goal, 5)?;
+    Some(Entered::One(plus(at, 8), within(w, n)))
 }
 
 // `all`: the variable becomes parameter p + 1, and p grows by one above this node only.
-pub fn enter_all<'a>(
-    rules: &'a [u8],
-    goal: &'a [u8],
-    terms: &'a [u8],
-    at: usize,
-    room: &mut [u32],
-    w: Where,
-) -> Entered
-    ensures { (ss : List ℕ) (nest : ℕ) → EnteringAs W.All (files_of rules.now goal.now terms.now) ss room.old room.new at w nest result }
+pub fn enter_all(files: &Files, at: usize, room: &mut [u32], w: Where) -> Option<Entered>
+    ensures { (ss : List ℕ) (nest : ℕ) → EnteringAs W.All files.now ss room.old room.new at w nest result }
 {
-    let x = w.goal;
-    if rank(word_there(rules, goal, terms, x)) != 8 {
-        return Entered::Misfit;
-    }
+    let Word::All = word_there(files, w.goal) else {
+        return None;
+    };
     let p = w.parameters;
-    let top = w.top;
     if 64 <= p {
-        return Entered::Misfit;
+        return None;
     }
-    push(room, top, Binding::Parameter((p + 1) as u32));
-    Entered::One(plus(at, 6), bound(w, 6, p + 1))
+    push(room, w.top, Binding::Parameter((p + 1) as u32));
+    Some(Entered::One(plus(at, 6), bound(w, 6, p + 1)))
 }
 
 // `imp`: the clause joins the end of the clauses at hand above this node only, with its variables as they stand.
-pub fn enter_imp<'a>(
-    rules: &'a [u8],
-    goal: &'a [u8],
-    terms: &'a [u8],
-    at: usize,
-    room: &mut [u32],
-    w: Where,
-) -> Entered
-    ensures { (ss : List ℕ) (nest : ℕ) → EnteringAs W.Imp (files_of rules.now goal.now terms.now) ss room.old room.new at w nest result }
+pub fn enter_imp(files: &Files, at: usize, room: &mut [u32], w: Where) -> Option<Entered>
+    ensures { (ss : List ℕ) (nest : ℕ) → EnteringAs W.Imp files.now ss room.old room.new at w nest result }
 {
-    let x = w.goal;
-    if rank(word_there(rules, goal, terms, x)) != 9 {
-        return Entered::Misfit;
-    }
-    match past_part(rules, goal, terms, x, 6) {
-        After::Nothing => Entered::Misfit,
-        After::Next(n) => {
-            let m = w.supposed;
-            suppose(room, m, further(x, 6));
-            Entered::One(plus(at, 6), supposes(w, n))
-        }
-    }
+    let Word::Imp = word_there(files, w.goal) else {
+        return None;
+    };
+    let n = past_part(files, w.goal, 6)?;
+    suppose(room, w.supposed, further(w.goal, 6));
+    Some(Entered::One(plus(at, 6), supposes(w, n)))
 }
 
 // A candidate by number; a number that no word holds counts as the largest.
 pub fn candidate(i: usize) -> Binding
     ensures { result ≡ Candidate (held i) }
 {
-    if i < 0xffff_ffff {
-        return Binding::Candidate(i as u32);
-    }
-    Binding::Candidate(0xffff_ffff)
+    Binding::Candidate(hold(i))
 }
 
 // `some` n: the variable becomes candidate n, if that may be used here.
-pub fn enter_some<'a>(
-    rules: &'a [u8],
-    goal: &'a [u8],
-    terms: &'a [u8],
+pub fn enter_some(
+    files: &Files,
     strip: &[u8],
     at: usize,
     room: &mut [u32],
     w: Where,
-) -> Entered
-    ensures { (nest : ℕ) → EnteringAs W.Some (files_of rules.now goal.now terms.now) strip.now room.old room.new at w nest result }
+) -> Option<Entered>
+    ensures { (nest : ℕ) → EnteringAs W.Some files.now strip.now room.old room.new at w nest result }
 {
-    let x = w.goal;
-    if rank(word_there(rules, goal, terms, x)) != 7 {
-        return Entered::Misfit;
-    }
+    let Word::Some = word_there(files, w.goal) else {
+        return None;
+    };
     let from = plus(at, 7);
-    let p = w.parameters;
-    match number(strip, from) {
-        Value::Nothing => Entered::Misfit,
-        Value::Is(i) => {
-            if !may_use(room, p, i) {
-                return Entered::Misfit;
-            }
-            match past(strip, from, 0) {
-                After::Nothing => Entered::Misfit,
-                After::Next(start) => {
-                    let top = w.top;
-                    push(room, top, candidate(i));
-                    Entered::One(start, bound(w, 7, p))
-                }
-            }
-        }
+    let i = number(strip, from)?;
+    if !may_use(room, w.parameters, i) {
+        return None;
     }
+    let start = past(strip, from, 0)?;
+    push(room, w.top, candidate(i));
+    Some(Entered::One(start, bound(w, 7, w.parameters)))
 }

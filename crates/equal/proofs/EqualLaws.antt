@@ -1,64 +1,39 @@
 -- How two terms are compared where they stand: their words, the names or numbers after them, and then the terms after those, one by one.
-use Prim.Native.Nat.{ℕ, ◌+◌, ◌-◌, ◌≤◌, ◌<◌, max}
-use mathlib.Core.Path.{◌≡◌, refl, sym, ◌∙◌, ap, ap₂, subst}
-use mathlib.Core.Bool.{Bool, true, false, ◌&&◌, false≢true}
-use mathlib.Core.List.{List, [], ◌∷◌}
+use Prim.Native.Nat.{ℕ, ◌+◌, ◌≤◌}
+use mathlib.Core.Path.{◌≡◌, sym, ◌∙◌, ap, ap₂, subst}
+use mathlib.Core.Bool.{Bool, true, false}
+use mathlib.Core.List.{List}
 use native.Mathlib.Omega.{arith}
-use lib.Dec.{eqb}
-use lib.ListN.{length, get_or, drop, length-drop}
-use borrow.Author.Tests.{eq-eqb, ne_eqb, eqb-true, eqb-false}
-use Rattle.basics.specs.Choice.{both_true}
+use lib.ListN.{length, drop, length-drop}
 use Rattle.basics.specs.Tells.{Tells, told-yes, told-no}
-use Rattle.basics.specs.Text.{octets}
-use Rattle.harrop.specs.Formula.{Name, Term, Terms, Atom}
-use Rattle.harrop.specs.Bindings.{Bindings, replaced, replaceds, replaced_atom, same_term, same_terms, same_atom}
-use Rattle.harrop.proofs.SameLaws.{equal-terms-same, equal-names-same}
-use Rattle.packet.specs.Written.{term_sexp, term_sexps, atom_sexp}
+use Rattle.harrop.specs.Formula.{Term}
+use Rattle.harrop.specs.Bindings.{Bindings, replaced, replaceds, same_term, same_terms}
+use Rattle.harrop.proofs.SameLaws.{equal-terms-same}
+use Rattle.packet.specs.Written.{term_sexp, term_sexps}
 use Rattle.packet.specs.Read.{term_of}
 use Rattle.packet.proofs.ReadLaws.{term-read}
-use Rattle.packet.specs.Barred.{term_ok, terms_ok}
-use Rattle.sexp.specs.declared.skip.After.{After}
-use Rattle.sexp.specs.declared.skip.After.TheVariants as A
-use Rattle.sexp.specs.Decimal.{decimal}
-use Rattle.sexp.specs.Sexp.{Sexp, Sexps, str, list, nil, cons, spell, Stands, StandsAll, nesting, nestings}
-use Rattle.sexp.specs.Past.{Ends, PastAt}
+use Rattle.std.specs.Prelude.{Option, Some, None}
+use Rattle.sexp.specs.Sexp.{Sexp, str, spell, Stands, nesting, nestings}
+use Rattle.sexp.specs.Past.{PastAt}
 use Rattle.sexp.specs.WordsAt.{Shared}
 use Rattle.sexp.proofs.AnswerLaws.{past_next, past-nothing}
-use Rattle.sexp.proofs.SpellLaws.{spell-first}
 use Rattle.sexp.proofs.OntoLaws.{spell-some}
-use Rattle.sexp.proofs.StandLaws.{stands-once, stands-inside, first-stands, others-stand, none-closes, no-closing}
-use Rattle.room.specs.declared.Source.{Source}
-use Rattle.room.specs.declared.Source.TheVariants as S
+use Rattle.sexp.proofs.StandLaws.{stands-once, stands-inside}
 use Rattle.room.specs.declared.Spot.{Spot}
-use Rattle.equal.specs.declared.equal.Seen.{Seen}
-use Rattle.equal.specs.declared.equal.Seen.TheVariants.{Parameter, Written}
 use Rattle.equal.specs.declared.equal.Begun.{Begun}
 use Rattle.equal.specs.declared.equal.Begun.TheVariants.{Same, Differ, Rest}
-use Rattle.room.specs.Layout.{levels}
-use Rattle.room.specs.Spot.{file_of, source_number, source_of, bindings_at}
-use Rattle.room.specs.Table.{CandidatesIn}
-use Rattle.equal.specs.Term.{AtomAt, TermAt, TermsAt, is_written, WrittenAt, Sees, SeesAt, IsParameter, moved_to, AfterText, AfterAt, RestAt, Begins, beginning, BeginsWritten, BeginsAt, SameTerms, SameRest, SameAtoms}
-use Rattle.room.proofs.FileLaws.{source-again, spot-alike}
-use Rattle.room.proofs.NestLaws.{term-nests}
-use Rattle.equal.proofs.TermLaws.{part-stands, all-further, term_word, term_text, term_rest, term-word, term-text, term-rest, atom-text, atom-rest, text-once, decimal-same, names-differ, written_same, words-differ, texts-differ, rest-less, rest-shallow, rest_ok}
+use Rattle.room.specs.Spot.{bindings_at, moved_to}
+use Rattle.room.specs.Files.{Files, file_of}
+use Rattle.equal.specs.Term.{TermAt, TermsAt, WrittenAt, AfterAt, Begins, BeginsWritten}
+use Rattle.equal.proofs.TermLaws.{part-stands, all-further, term_word, term_text, term_rest, term-word, term-text, term-rest, text-once, written_same, words-differ, texts-differ, rest-less, rest-shallow, rest_ok}
 
 -- a term is known from how it is written
 written_once : (t u : Term) → term_sexp t ≡ term_sexp u → t ≡ u
 written_once t u e = sym (term-read t) ∙ ap term_of e ∙ term-read u
 
--- two spots with the same fields
-pub spot-same : (x y : Spot) → source_number x.source ≡ source_number y.source → x.at ≡ y.at → x.base ≡ y.base → x.count ≡ y.count → x ≡ y
-spot-same x y a b c d = spot-alike (sym (source-again x.source) ∙ ap source_of a ∙ source-again y.source) b c d
-
-module _ (rules goal terms : List ℕ) where
+module _ (fs : Files) where
   abbrev file : Spot → List ℕ
-  file x = file_of rules goal terms x.source
-
-  -- a file is no longer than the longest
-  pub file-length : (w : Source) → length (file_of rules goal terms w) ≤ max (length rules) (max (length goal) (length terms))
-  file-length S.Rules = omega arith
-  file-length S.Goal = omega arith
-  file-length S.Terms = omega arith
+  file x = file_of fs x.source
 
   -- just after a string that two parts share, or that they share none
   module _ (x y : Spot) {s t : List ℕ} (from : ℕ) (p : s ≡ drop x.at (file x)) (q : t ≡ drop y.at (file y)) where
@@ -71,16 +46,16 @@ module _ (rules goal terms : List ℕ) where
     pub after_none : {r : Bool} → Tells r (Shared s from t from) → r ≡ false → AfterAt (file x) (file y) x y from Differ
     after_none h e z = told-no e h (shared-here z)
 
-    pub after-lost : {r : Bool} {n : After} → Tells r (Shared s from t from) → r ≡ true → n ≡ A.Nothing → PastAt s from 0 n → AfterAt (file x) (file y) x y from Differ
+    pub after-lost : {r : Bool} {n : Option ℕ} → Tells r (Shared s from t from) → r ≡ true → n ≡ None → PastAt s from 0 n → AfterAt (file x) (file y) x y from Differ
     after-lost h e z a = let w = told-yes e h in absurd (past-nothing z a (str w.octets) w.here (omega arith))
 
-    past-text : {r : Bool} {n : ℕ} {a : After} → (h : Tells r (Shared s from t from)) (e : r ≡ true) → a ≡ A.Next n → PastAt s from 0 a → n ≡ from + length (spell (str (told-yes e h).octets))
+    past-text : {r : Bool} {n : ℕ} {a : Option ℕ} → (h : Tells r (Shared s from t from)) (e : r ≡ true) → a ≡ Some n → PastAt s from 0 a → n ≡ from + length (spell (str (told-yes e h).octets))
     past-text h e z a =
         let w = told-yes e h in
         let E = past_next z a in
         E.ends ∙ ap (λ (d : Sexp). from + length (spell d)) (stands-once E.stands w.here)
 
-    pub after-inside : {r : Bool} {n : ℕ} {a : After} → Tells r (Shared s from t from) → r ≡ true → a ≡ A.Next n → PastAt s from 0 a → (x.at + n ≤ length (file x)) × (y.at + n ≤ length (file y))
+    pub after-inside : {r : Bool} {n : ℕ} {a : Option ℕ} → Tells r (Shared s from t from) → r ≡ true → a ≡ Some n → PastAt s from 0 a → (x.at + n ≤ length (file x)) × (y.at + n ≤ length (file y))
     after-inside {n = n} h e z a =
         let w = told-yes e h in
         let k = past-text h e z a in
@@ -91,7 +66,7 @@ module _ (rules goal terms : List ℕ) where
         let some = spell-some (str w.octets) in
         (omega arith, omega arith)
 
-    pub after-some : {r : Bool} {n : ℕ} {a : After} {b c : Spot} → Tells r (Shared s from t from) → r ≡ true → a ≡ A.Next n → PastAt s from 0 a → b ≡ moved_to x (x.at + n) → c ≡ moved_to y (y.at + n)
+    pub after-some : {r : Bool} {n : ℕ} {a : Option ℕ} {b c : Spot} → Tells r (Shared s from t from) → r ≡ true → a ≡ Some n → PastAt s from 0 a → b ≡ moved_to x (x.at + n) → c ≡ moved_to y (y.at + n)
         → AfterAt (file x) (file y) x y from (Rest b c)
     after-some {n = n} h e z a u v =
         let w = told-yes e h in
@@ -106,13 +81,13 @@ module _ (rules goal terms : List ℕ) where
         }
 
   -- what stands in the part of a spot
-  in-part : {x : Spot} {t : Term} → TermAt rules goal terms x t → Stands (drop x.at (file x)) 0 (term_sexp t)
+  in-part : {x : Spot} {t : Term} → TermAt fs x t → Stands (drop x.at (file x)) 0 (term_sexp t)
   in-part T = part-stands T.stands
 
   -- the terms after the name or number of a term
-  terms-after : (x a : Spot) (t : Term) → TermAt rules goal terms x t → a ≡ moved_to x (x.at + (4 + length (spell (str (term_text t))))) → TermsAt rules goal terms a (term_rest t)
+  terms-after : (x a : Spot) (t : Term) → TermAt fs x t → a ≡ moved_to x (x.at + (4 + length (spell (str (term_text t))))) → TermsAt fs a (term_rest t)
   terms-after x a t T e =
-      subst (λ (y : Spot). TermsAt rules goal terms y (term_rest t)) (sym e) (record {
+      subst (λ (y : Spot). TermsAt fs y (term_rest t)) (sym e) (record {
         stands = all-further x.at (4 + length (spell (str (term_text t)))) (term-rest t (in-part T));
         shallow = omega (arith, rest-shallow t, T.shallow);
         few = T.few;
@@ -121,11 +96,11 @@ module _ (rules goal terms : List ℕ) where
       })
 
   -- two written terms at the same spot are the same
-  pub heads-once : (x y : Spot) → x ≡ y → BeginsWritten rules goal terms x y Same
+  pub heads-once : (x y : Spot) → x ≡ y → BeginsWritten fs x y Same
   heads-once x y e room cs u w U W =
       let t = U.term in
       let v = W.term in
-      let q : TermAt rules goal terms x v = subst (λ (z : Spot). TermAt rules goal terms z v) (sym e) W.here in
+      let q : TermAt fs x v = subst (λ (z : Spot). TermAt fs z v) (sym e) W.here in
       let same = written_once t v (stands-once U.here.stands q.stands) in
       equal-terms-same u w
       (sym U.means
@@ -133,7 +108,7 @@ module _ (rules goal terms : List ℕ) where
       ∙ ap (λ (z : Spot). replaced cs (bindings_at room z) v) e
       ∙ W.means)
 
-  module _ (x y : Spot) (room : List ℕ) (cs : List Term) (u w : Term) (U : WrittenAt rules goal terms room cs x u) (W : WrittenAt rules goal terms room cs y w) where
+  module _ (x y : Spot) (room : List ℕ) (cs : List Term) (u w : Term) (U : WrittenAt fs room cs x u) (W : WrittenAt fs room cs y w) where
     -- their words differ
     heads-words : (term_word U.term ≡ term_word W.term → ⊥) → same_term u w ≡ false
     heads-words n =
@@ -146,7 +121,7 @@ module _ (rules goal terms : List ℕ) where
         ∙ texts-differ cs (bindings_at room x) (bindings_at room y) U.term W.term U.plain W.plain n
 
     -- their words are the same: what stands after them decides
-    heads-after : term_word U.term ≡ term_word W.term → (r : Begun) → AfterAt (file x) (file y) x y 4 r → Begins rules goal terms room cs u w r
+    heads-after : term_word U.term ≡ term_word W.term → (r : Begun) → AfterAt (file x) (file y) x y 4 r → Begins fs room cs u w r
     heads-after e Same a = absurd a
     heads-after e Differ a =
         heads-texts λ d. a (record {
@@ -176,7 +151,7 @@ module _ (rules goal terms : List ℕ) where
         }
 
   module _ (x y : Spot) {s t : List ℕ} {r : Bool} (p : s ≡ drop x.at (file x)) (q : t ≡ drop y.at (file y)) (h : Tells r (Shared s 1 t 1)) where
-    pub heads-differ : r ≡ false → BeginsWritten rules goal terms x y Differ
+    pub heads-differ : r ≡ false → BeginsWritten fs x y Differ
     heads-differ e room cs u w U W =
         heads-words x y room cs u w U W λ d. told-no e h (record {
           octets = term_word U.term;
@@ -185,7 +160,7 @@ module _ (rules goal terms : List ℕ) where
               (subst (λ (l : List ℕ). Stands (drop y.at (file y)) 1 (str l)) (sym d) (term-word W.term (in-part W.here)));
         })
 
-    pub heads-rest : r ≡ true → (b : Begun) → AfterAt (file x) (file y) x y 4 b → BeginsWritten rules goal terms x y b
+    pub heads-rest : r ≡ true → (b : Begun) → AfterAt (file x) (file y) x y 4 b → BeginsWritten fs x y b
     heads-rest e b a room cs u w U W =
         let z = told-yes e h in
         let one = text-once z.here (subst (λ (l : List ℕ). Stands l 1 (str (term_word U.term))) (sym p) (term-word U.term (in-part U.here))) in

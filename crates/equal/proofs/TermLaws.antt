@@ -1,24 +1,23 @@
 -- How a term or an atom that stands at a spot is read: every one is a list of a word, a name or number, and terms.
 -- From document 01's table of words; all of it on the part of the file that starts at the spot.
-use Prim.Native.Nat.{ℕ, zero, suc, ◌+◌, ◌≤◌, ◌<◌, max}
+use Prim.Native.Nat.{ℕ, ◌+◌, ◌≤◌}
 use mathlib.Core.Path.{◌≡◌, refl, sym, ◌∙◌, ap, ap₂, subst}
-use mathlib.Core.Bool.{Bool, true, false, ◌&&◌, false≢true}
-use mathlib.Core.List.{List, [], ◌∷◌, ◌++◌}
+use mathlib.Core.Bool.{Bool, true, false, false≢true}
+use mathlib.Core.List.{List}
 use native.Mathlib.Omega.{arith}
-use lib.Dec.{eqb, leb, ltb}
 use lib.ListN.{length, drop}
 use lib.Seq.{drop-drop}
-use borrow.Author.Tests.{ltb-true, leb-true, eq-eqb, ne_eqb}
+use borrow.Author.Tests.{ltb-true, eq-eqb, ne_eqb}
 use Rattle.basics.specs.Choice.{both_true}
 use Rattle.basics.specs.Text.{octets}
 use Rattle.harrop.specs.Formula.{Name, Term, Terms, Atom}
-use Rattle.harrop.specs.Bindings.{Bindings, replaced, replaceds, replaced_atom, same_name, same_term, same_terms, same_atom}
-use Rattle.harrop.proofs.SameLaws.{same-names-equal, name-same, equal-names-same}
-use Rattle.packet.specs.Written.{word, one, number, term_sexp, term_sexps, atom_sexp}
-use Rattle.packet.specs.Barred.{Holds, term_ok, terms_ok, atom_ok, parameter_ok}
+use Rattle.harrop.specs.Bindings.{Bindings, replaced, replaceds, same_name, same_term, same_terms}
+use Rattle.harrop.proofs.SameLaws.{same-names-equal, equal-names-same}
+use Rattle.packet.specs.Written.{word, term_sexp, term_sexps, atom_sexp}
+use Rattle.packet.specs.Barred.{Holds, term_ok, terms_ok}
 use Rattle.sexp.specs.Decimal.{decimal_onto, decimal}
 use Rattle.sexp.specs.Words.{worth}
-use Rattle.sexp.specs.Sexp.{Sexp, Sexps, str, list, nil, cons, spell, Stands, StandsAll, nesting, nestings}
+use Rattle.sexp.specs.Sexp.{Sexp, Sexps, str, cons, spell, Stands, StandsAll, nesting, nestings}
 use Rattle.sexp.proofs.StandLaws.{members-stand, first-stands, others-stand, stands-once}
 use Rattle.sexp.proofs.WordLaws.{worth-decimal}
 use Rattle.equal.specs.Term.{is_written}

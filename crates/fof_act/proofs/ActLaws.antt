@@ -20,16 +20,17 @@ use Rattle.fof_part.specs.Due as part
 use Rattle.fof_part.specs.Due.{Did, did, cost, costs, left, headed, many_headed, link_word, quantifier_word}
 use Rattle.fof_pass.specs.declared.ink.Pen.{Pen}
 use Rattle.fof_pass.specs.declared.ahead.Ahead.{Ahead}
-use Rattle.fof_pass.specs.declared.names.Number.{Number}
-use Rattle.fof_pass.specs.declared.names.Number.TheVariants as N
+use Rattle.std.specs.Prelude.{Some, None}
+use Rattle.std.specs.Prelude as std
 use Rattle.fof_pass.specs.declared.dues.Due.{Due}
 use Rattle.fof_plan.specs.declared.plan.Plan.{Plan}
 use Rattle.fof_plan.specs.declared.plan.Writes.{Writes}
 use Rattle.fof_plan.specs.declared.plan.Writes.TheVariants as W
 use Rattle.fof_act.specs.declared.act.Now.{Now}
 use Rattle.fof_act.specs.declared.act.Wrote.{Wrote}
+use Rattle.fof_pass.specs.Codes.{code_is}
 use Rattle.fof_pass.specs.Ahead.{signs_at, between, name_in, Aheads}
-use Rattle.fof_pass.specs.Dues.{link_is, quantifier_is, meant, Few, Held, Pushes}
+use Rattle.fof_pass.specs.Dues.{link_is, quantifier_is, meant, Few, Stack, Held, Pushes}
 use Rattle.fof_pass.specs.Ink.{Inks}
 use Rattle.fof_pass.specs.Names.{Scoped, number_is}
 use Rattle.fof_plan.specs.Planned.{name_ahead, beyond, written, scope_then, dues_in, planned, Named}
@@ -38,12 +39,12 @@ use Rattle.fof_part.proofs.CostLaws.{cost-some}
 use Rattle.fof_pass.proofs.InkLaws.{inks-then}
 
 -- the sign ahead: its name, the signs behind it, and that a sign of number 1 is a variable
-name-ahead : (t : List ℕ) (at : ℕ) (a : Ahead) (ss : List Sign) → signs_at t at ≡ some ss → Aheads t at a → a.code < 2 → between t a.start a.end ≡ name_ahead ss
-name-ahead t at a [] e h l = let z : a.code ≡ 16 = h.seen [] e in absurd (omega arith)
+name-ahead : (t : List ℕ) (at : ℕ) (a : Ahead) (ss : List Sign) → signs_at t at ≡ some ss → Aheads t at a → (code_is a.sign) < 2 → between t a.start a.end ≡ name_ahead ss
+name-ahead t at a [] e h l = let z : (code_is a.sign) ≡ 16 = h.seen [] e in absurd (omega arith)
 name-ahead t at a (s ∷ ss) e h l = (h.seen (s ∷ ss) e).name l
 
-rest-ahead : (t : List ℕ) (at : ℕ) (a : Ahead) (ss : List Sign) → signs_at t at ≡ some ss → Aheads t at a → a.code < 16 → signs_at t a.end ≡ some (beyond true ss)
-rest-ahead t at a [] e h l = let z : a.code ≡ 16 = h.seen [] e in absurd (omega arith)
+rest-ahead : (t : List ℕ) (at : ℕ) (a : Ahead) (ss : List Sign) → signs_at t at ≡ some ss → Aheads t at a → (code_is a.sign) < 16 → signs_at t a.end ≡ some (beyond true ss)
+rest-ahead t at a [] e h l = let z : (code_is a.sign) ≡ 16 = h.seen [] e in absurd (omega arith)
 rest-ahead t at a (s ∷ ss) e h l = (h.seen (s ∷ ss) e).rest
 
 upper_is : (s : Sign) → code s ≡ 1 → s ≡ Sign.upper (name_in s)
@@ -85,15 +86,15 @@ named-is word x {b = b} {p} {q} {s} {d} {d1} {d2} {r} y e f i j k =
     subst (λ (y : Bool). WrittenAs (provided y (some (headed word ++ (Mark.string x ∷ [])))) r p d d2) (sym (not-false b f) ∙ e ∙ ap is_name y) (wrote-all (inks-then i (subst (λ (z : List ℕ). Inks (Mark.string z ∷ []) q d1 d2 s) y j)) k)
 
 -- a variable that is free, and one that is bound
-variable-as : (sc : Scope) (x : Name) (v : Number) (p : Pen) (d d' : List ℕ) (r : Wrote) → number_is v ≡ number_of sc x → WrittenAs (number_is v >>= λ i. some (headed (octets "v") ++ (Mark.string (decimal i) ∷ Mark.end ∷ []))) r p d d' → WrittenAs (variable_marks sc x) r p d d'
+variable-as : (sc : Scope) (x : Name) (v : std.Option ℕ) (p : Pen) (d d' : List ℕ) (r : Wrote) → number_is v ≡ number_of sc x → WrittenAs (number_is v >>= λ i. some (headed (octets "v") ++ (Mark.string (decimal i) ∷ Mark.end ∷ []))) r p d d' → WrittenAs (variable_marks sc x) r p d d'
 variable-as sc x v p d d' r e h = subst (λ (o : Option ℕ). WrittenAs (o >>= λ i. some (headed (octets "v") ++ (Mark.string (decimal i) ∷ Mark.end ∷ []))) r p d d') e h
 
-pub variable-free : (sc : Scope) (x : Name) {y : Name} (v : Number) (p : Pen) (d : List ℕ) (r : Wrote) → y ≡ x → number_is v ≡ number_of sc y → v ≡ N.Free → r.ok ≡ false → WrittenAs (variable_marks sc x) r p d d
-variable-free sc x v p d r k e f g = variable-as sc x N.Free p d d r (sym (ap number_is f) ∙ e ∙ ap (number_of sc) k) g
+pub variable-free : (sc : Scope) (x : Name) {y : Name} (v : std.Option ℕ) (p : Pen) (d : List ℕ) (r : Wrote) → y ≡ x → number_is v ≡ number_of sc y → v ≡ None → r.ok ≡ false → WrittenAs (variable_marks sc x) r p d d
+variable-free sc x v p d r k e f g = variable-as sc x None p d d r (sym (ap number_is f) ∙ e ∙ ap (number_of sc) k) g
 
-pub variable-bound : (sc : Scope) (x : Name) (i : ℕ) {y : Name} (v : Number) {p q s u : Pen} {d d1 d2 d3 : List ℕ} {r : Wrote} → y ≡ x → number_is v ≡ number_of sc y → v ≡ N.Bound i → Inks (headed (octets "v")) p d d1 q → Inks (Mark.string (decimal i) ∷ []) q d1 d2 s → Inks (Mark.end ∷ []) s d2 d3 u → r ≡ record { ok = true; pen = u } → WrittenAs (variable_marks sc x) r p d d3
+pub variable-bound : (sc : Scope) (x : Name) (i : ℕ) {y : Name} (v : std.Option ℕ) {p q s u : Pen} {d d1 d2 d3 : List ℕ} {r : Wrote} → y ≡ x → number_is v ≡ number_of sc y → v ≡ Some i → Inks (headed (octets "v")) p d d1 q → Inks (Mark.string (decimal i) ∷ []) q d1 d2 s → Inks (Mark.end ∷ []) s d2 d3 u → r ≡ record { ok = true; pen = u } → WrittenAs (variable_marks sc x) r p d d3
 variable-bound sc x i v {p = p} {d = d} {d3 = d3} {r = r} k e f a b c g =
-    variable-as sc x (N.Bound i) p d d3 r (sym (ap number_is f) ∙ e ∙ ap (number_of sc) k) (wrote-all (inks-then a (inks-then b c)) g)
+    variable-as sc x (Some i) p d d3 r (sym (ap number_is f) ∙ e ∙ ap (number_of sc) k) (wrote-all (inks-then a (inks-then b c)) g)
 
 -- what a plan writes: marks that do not ask for the sign ahead, a name, a variable
 module _ (t ns : List ℕ) (bound : ℕ) {d d' : List ℕ} (p : Pen) (a : Ahead) {w : Writes} {r : Wrote} where
@@ -107,7 +108,7 @@ module _ (t ns : List ℕ) (bound : ℕ) {d d' : List ℕ} (p : Pen) (a : Ahead)
   write-named word e f g l k = record {
     long = l;
     does = λ at takes sc ss s h m _.
-        let z : a.code ≡ 0 = g takes a.code (subst (λ (x : Writes). Named x takes a.code) e m) in
+        let z : (code_is a.sign) ≡ 0 = g takes (code_is a.sign) (subst (λ (x : Writes). Named x takes (code_is a.sign)) e m) in
         subst (λ (o : Option (List Mark)). WrittenAs o r p d d') (ap (named_marks word) (name-ahead t at a ss s h (omega arith)) ∙ sym (f sc ss) ∙ sym (ap (λ (x : Writes). written x sc ss) e)) k;
   }
 
@@ -115,7 +116,7 @@ module _ (t ns : List ℕ) (bound : ℕ) {d d' : List ℕ} (p : Pen) (a : Ahead)
   write-variable e l k = record {
     long = l;
     does = λ at takes sc ss s h m b.
-        let z : a.code ≡ 1 = subst (λ (x : Writes). Named x takes a.code) e m in
+        let z : (code_is a.sign) ≡ 1 = subst (λ (x : Writes). Named x takes (code_is a.sign)) e m in
         subst (λ (o : Option (List Mark)). WrittenAs o r p d d') (ap (variable_marks sc) (name-ahead t at a ss s h (omega arith)) ∙ sym (ap (λ (x : Writes). written x sc ss) e)) (k sc b);
   }
 
@@ -137,8 +138,8 @@ scoped-left [] t ns n h = omega arith
 scoped-left (x ∷ sc) t ns n (m, e, ss, s, h) = subst (λ (y : ℕ). Scoped t ns y sc) {x = m} {y = n - 1} (omega arith) h
 
 -- and one more, the variable ahead
-scoped_more : (sc : Scope) (t ns : List ℕ) (n at : ℕ) (a : Ahead) (ss : List Sign) → signs_at t at ≡ some ss → Aheads t at a → a.code ≡ 1 → n < length ns → Scoped t ns n sc → Scoped t (set ns n at) (n + 1) (name_ahead ss ∷ sc)
-scoped_more sc t ns n at a [] e h c l b = let z : a.code ≡ 16 = h.seen [] e in absurd (omega arith)
+scoped_more : (sc : Scope) (t ns : List ℕ) (n at : ℕ) (a : Ahead) (ss : List Sign) → signs_at t at ≡ some ss → Aheads t at a → (code_is a.sign) ≡ 1 → n < length ns → Scoped t ns n sc → Scoped t (set ns n at) (n + 1) (name_ahead ss ∷ sc)
+scoped_more sc t ns n at a [] e h c l b = let z : (code_is a.sign) ≡ 16 = h.seen [] e in absurd (omega arith)
 scoped_more sc t ns n at a (s ∷ ss) e h c l b =
     let u = upper_is s (sym (h.seen (s ∷ ss) e).number ∙ c) in
     (n, omega arith, ss, subst (λ (y : ℕ). signs_at t y ≡ some (Sign.upper (name_in s) ∷ ss)) (sym (get_or-set_same ns n at 0 l)) (e ∙ ap (λ (x : Sign). some (x ∷ ss)) u), scoped-set sc t ns n n at b (omega arith))
@@ -154,7 +155,7 @@ pub bind-more : (ns ns' : List ℕ) (bound at : ℕ) {every : Bool} {w : Writes}
 bind-more ns ns' bound at {w = w} {r = r} e f g = record {
   long = ap length f ∙ length-set ns bound at;
   does = λ t takes a sc ss s h m l k b.
-      let z : (a.code ≡ 1) × (takes ≡ true) = subst (λ (x : Writes). Named x takes a.code) e m in
+      let z : ((code_is a.sign) ≡ 1) × (takes ≡ true) = subst (λ (x : Writes). Named x takes (code_is a.sign)) e m in
       subst (λ (x : List ℕ). Scoped t x r (scope_then w sc ss)) (sym f)
       (subst (λ (n : ℕ). Scoped t (set ns bound at) n (scope_then w sc ss)) (sym (g l))
       (subst (λ (x : Writes). Scoped t (set ns bound at) (bound + 1) (scope_then x sc ss)) (sym e)
@@ -170,14 +171,14 @@ bind-less ns bound at {w} {r} e f = record {
 }
 
 -- the height is the number of dues
-held-length : (ds : List part.Due) (st : List ℕ) (top : ℕ) → Held st top ds → top ≡ length ds
+held-length : (ds : List part.Due) (st : Stack) (top : ℕ) → Held st top ds → top ≡ length ds
 held-length [] st top h = h
 held-length (d ∷ ds) st top (n, e, m, f, h) = e ∙ ap suc (held-length ds st n h)
 
 shorter : {A : Type 0} (xs ys : List A) {n : ℕ} → length (xs ++ ys) < n → length ys < n
 shorter xs ys l = omega (arith, length-append xs ys)
 
-push-on : (d : Due) {st st' : List ℕ} {n n' : ℕ} (ds : List part.Due) → Pushes d st st' n n' → Held st n ds → length (meant d ++ ds) < 98400 → 98400 ≤ length st → Few d → Held st' n' (meant d ++ ds)
+push-on : (d : Due) {st st' : Stack} {n n' : ℕ} (ds : List part.Due) → Pushes d st st' n n' → Held st n ds → length (meant d ++ ds) < 98400 → 98400 ≤ length st → Few d → Held st' n' (meant d ++ ds)
 push-on d {st} {st'} {n} {n'} ds p h l m f =
     let z = held-length ds st n h in
     let y = shorter (meant d) ds l in
@@ -189,7 +190,7 @@ four a b c e ds =
     ∙ ap (λ (x : List part.Due). a ++ x) (append_assoc b (c ++ e) ds ∙ ap (λ (x : List part.Due). b ++ x) (append_assoc c e ds))
 
 -- what a plan leaves due, pushed from its last due on
-pub push-four : (p : Plan) {st st1 st2 st3 st4 : List ℕ} {n n1 n2 n3 n4 : ℕ} → Pushes p.fourth st st1 n n1 → Pushes p.third st1 st2 n1 n2 → Pushes p.second st2 st3 n2 n3 → Pushes p.first st3 st4 n3 n4 → Pushing st st4 n p n4
+pub push-four : (p : Plan) {st st1 st2 st3 st4 : Stack} {n n1 n2 n3 n4 : ℕ} → Pushes p.fourth st st1 n n1 → Pushes p.third st1 st2 n1 n2 → Pushes p.second st2 st3 n2 n3 → Pushes p.first st3 st4 n3 n4 → Pushing st st4 n p n4
 push-four p {st} {st1} {st2} {st3} {st4} {n4 = n4} a b c e = record {
   long = e.long ∙ c.long ∙ b.long ∙ a.long;
   does = λ ds h l m f.
@@ -213,19 +214,19 @@ length-costs [] = omega arith
 length-costs (d ∷ ds) = omega (arith, cost-some d, length-costs ds)
 
 -- the signs left start where the plan says
-place-signs : (takes : Bool) (t : List ℕ) (at : ℕ) (a : Ahead) (ss : List Sign) → signs_at t at ≡ some ss → Aheads t at a → (takes ≡ true → a.code < 16) → signs_at t (choose takes a.end at) ≡ some (beyond takes ss)
+place-signs : (takes : Bool) (t : List ℕ) (at : ℕ) (a : Ahead) (ss : List Sign) → signs_at t at ≡ some ss → Aheads t at a → (takes ≡ true → (code_is a.sign) < 16) → signs_at t (choose takes a.end at) ≡ some (beyond takes ss)
 place-signs true t at a ss e h l = rest-ahead t at a ss e h (l refl)
 place-signs false t at a ss e h l = e
 
 -- a plan that cannot be carried out, and one that is
-pub act-not : (t st ns d : List ℕ) (n : Now) (a : Ahead) (p : Plan) (r : Now) → p.ok ≡ false → r.ok ≡ false → Acts t st st ns ns d d n a p r
+pub act-not : (t : List ℕ) (st : Stack) (ns d : List ℕ) (n : Now) (a : Ahead) (p : Plan) (r : Now) → p.ok ≡ false → r.ok ≡ false → Acts t st st ns ns d d n a p r
 act-not t st ns d n a p r e f = record {
   kept = record { stack = refl; names = refl; bytes = refl };
   does = λ ds sc ss _ _ _ _ _ _.
       subst (λ (b : Bool). DoneAs (provided b (written p.writes sc ss >>= λ ms. did ms (dues_in p) (scope_then p.writes sc ss) (beyond p.takes ss))) ds t st ns d d n.pen r) (sym e) f;
 }
 
-pub act-done : (t st st' ns ns' d d' : List ℕ) (n : Now) (a : Ahead) (p : Plan) {w : Wrote} {top bound at : ℕ} → p.ok ≡ true → Writing t ns n.bound d d' n.pen a p.writes w → Binding ns ns' n.bound n.at p.writes bound → Pushing st st' n.top p top → at ≡ choose p.takes a.end n.at → Acts t st st' ns ns' d d' n a p (record { ok = w.ok; at = at; top = top; bound = bound; pen = w.pen })
+pub act-done : (t : List ℕ) (st st' : Stack) (ns ns' d d' : List ℕ) (n : Now) (a : Ahead) (p : Plan) {w : Wrote} {top bound at : ℕ} → p.ok ≡ true → Writing t ns n.bound d d' n.pen a p.writes w → Binding ns ns' n.bound n.at p.writes bound → Pushing st st' n.top p top → at ≡ choose p.takes a.end n.at → Acts t st st' ns ns' d d' n a p (record { ok = w.ok; at = at; top = top; bound = bound; pen = w.pen })
 act-done t st st' ns ns' d d' n a p {w} {top} {bound} {at} okay wr bi pu pl = record {
   kept = record { stack = pu.long; names = bi.long; bytes = wr.long };
   does = λ ds sc ss h ah nm tk few en. go ds sc ss h ah nm tk few en (written p.writes sc ss) refl;
@@ -240,7 +241,7 @@ act-done t st st' ns ns' d d' n a p {w} {top} {bound} {at} okay wr bi pu pl = re
     is : (sc : Scope) (ss : List Sign) (o : Option (List Mark)) → written p.writes sc ss ≡ o → planned p sc ss ≡ then sc ss o
     is sc ss o e = ap (λ (b : Bool). provided b (then sc ss (written p.writes sc ss))) okay ∙ ap (then sc ss) e
 
-    go : (ds : List part.Due) (sc : Scope) (ss : List Sign) → Holds t st ns n ds sc ss → Aheads t n.at a → Named p.writes p.takes a.code → (p.takes ≡ true → a.code < 16) → Few p.first × Few p.second × Few p.third × Few p.fourth → ((x : Did) → planned p sc ss ≡ some x → Enough (x.dues ++ ds) x.scope x.rest) → (o : Option (List Mark)) → written p.writes sc ss ≡ o → DoneAs (planned p sc ss) ds t st' ns' d d' n.pen r
+    go : (ds : List part.Due) (sc : Scope) (ss : List Sign) → Holds t st ns n ds sc ss → Aheads t n.at a → Named p.writes p.takes (code_is a.sign) → (p.takes ≡ true → (code_is a.sign) < 16) → Few p.first × Few p.second × Few p.third × Few p.fourth → ((x : Did) → planned p sc ss ≡ some x → Enough (x.dues ++ ds) x.scope x.rest) → (o : Option (List Mark)) → written p.writes sc ss ≡ o → DoneAs (planned p sc ss) ds t st' ns' d d' n.pen r
     go ds sc ss h ah nm tk few en none e =
         subst (λ (x : Option Did). DoneAs x ds t st' ns' d d' n.pen r) (sym (is sc ss none e))
         (subst (λ (o : Option (List Mark)). WrittenAs o w n.pen d d') e (wr.does n.at p.takes sc ss h.signs ah nm h.names))

@@ -11,7 +11,7 @@ use Rattle.fof_tokens.specs.Token.{Token}
 use Rattle.fof_tokens.specs.Machine.{Sort, gap, token}
 use Rattle.fof_tokens.specs.Next.{piece_at, adds, with_piece, tokens_from, tokens_at}
 use Rattle.fof_truth.specs.Numbered.{Scope}
-use Rattle.fof_part.specs.Sign.{Sign, code, signs}
+use Rattle.fof_part.specs.Sign.{Sign, signs}
 use Rattle.fof_part.specs.Mark.{Mark}
 use Rattle.fof_part.specs.Due as part
 use Rattle.fof_part.specs.Due.{Did, did, due_at, left, Ran, after, run, costs, formula_at}
@@ -26,8 +26,9 @@ use Rattle.fof_plan.specs.declared.plan.Plan.{Plan}
 use Rattle.fof_plan.specs.declared.plan.Writes.{Writes}
 use Rattle.fof_plan.specs.declared.plan.Writes.TheVariants as W
 use Rattle.fof_act.specs.declared.act.Now.{Now}
+use Rattle.fof_pass.specs.Codes.{code_is}
 use Rattle.fof_pass.specs.Ahead.{signs_at, SeesAll, Aheads}
-use Rattle.fof_pass.specs.Dues.{sort_is, meant, Few, due_of, Held, Pushes}
+use Rattle.fof_pass.specs.Dues.{sort_is, meant, Few, Stack, Held, Pushes}
 use Rattle.fof_pass.specs.Ink.{Inks}
 use Rattle.fof_plan.specs.Planned.{code_ahead, beyond, written, scope_then, dues_in, planned, Named, Plans}
 use Rattle.fof_act.specs.Holding.{Enough, Roomy, Holds, DoneAs, Kept, Acts, Steps, ReadAs, Formulas}
@@ -67,7 +68,7 @@ signs-few t at ss e =
     omega (arith, length-drop at t)
 
 -- the number of the sign ahead
-pub code-seen : (t : List ℕ) (a : Ahead) (ss : List Sign) → SeesAll t a ss → a.code ≡ code_ahead ss
+pub code-seen : (t : List ℕ) (a : Ahead) (ss : List Sign) → SeesAll t a ss → (code_is a.sign) ≡ code_ahead ss
 code-seen t a [] h = h
 code-seen t a (s ∷ ss) h = h.number
 
@@ -120,12 +121,12 @@ enough-then x ds sc ss y e l (c, k) =
     (omega arith, omega arith)
 
 -- the due on top, done
-module _ {t st st' ns ns' b b' : List ℕ} {n r : Now} {top w : ℕ} {d : Due} {a : Ahead} {p : Plan} (low : top ≡ n.top - 1) (word : w ≡ get_or st top 0) (due : d ≡ due_of w) (ahead : Aheads t n.at a) (plan : Plans t n.at d a.code p) (act : Acts t st st' ns ns' b b' (record { ok = n.ok; at = n.at; top = top; bound = n.bound; pen = n.pen }) a p r) where
+module _ {t : List ℕ} {st st' : Stack} {ns ns' b b' : List ℕ} {n r : Now} {top : ℕ} {d : Due} {a : Ahead} {p : Plan} (low : top ≡ n.top - 1) (due : d ≡ get_or st top D.Nothing) (ahead : Aheads t n.at a) (plan : Plans t n.at d (code_is a.sign) p) (act : Acts t st st' ns ns' b b' (record { ok = n.ok; at = n.at; top = top; bound = n.bound; pen = n.pen }) a p r) where
   does-top : length t ≤ 16384 → (x : part.Due) (ds : List part.Due) (sc : Scope) (ss : List Sign) → Holds t st ns n (x ∷ ds) sc ss → DoneAs (due_at x sc ss) ds t st' ns' b b' n.pen r
   does-top short x ds sc ss h =
       let (k, e, m, f, rest) = h.dues in
       let at : top ≡ k = omega arith in
-      let is : due_of (get_or st k 0) ≡ d = sym (due ∙ ap due_of (word ∙ ap (λ (i : ℕ). get_or st i 0) at)) in
+      let is : get_or st k D.Nothing ≡ d = sym (due ∙ ap (λ (i : ℕ). get_or st i D.Nothing) at) in
       let c = code-seen t a ss (ahead.seen ss h.signs) in
       let same : due_at x sc ss ≡ planned p sc ss = plan.does ss h.signs c x (subst (λ (y : Due). meant y ≡ x ∷ []) is m) sc in
       let now : Holds t st ns (record { ok = n.ok; at = n.at; top = top; bound = n.bound; pen = n.pen }) ds sc ss = record {
@@ -143,7 +144,7 @@ module _ {t st st' ns ns' b b' : List ℕ} {n r : Now} {top w : ℕ} {d : Due} {
   steps = record { kept = act.kept; does = does-top }
 
 -- how far a formula is read that comes to `o`: so many steps are allowed, and they are enough; or there is no formula
-pub data Going (t st ns d d' : List ℕ) (p : Pen) (n : Now) (steps : ℕ) (o : Option Ran) : Type 0 where
+pub data Going (t : List ℕ) (st : Stack) (ns d d' : List ℕ) (p : Pen) (n : Now) (steps : ℕ) (o : Option Ran) : Type 0 where
   on : (ds : List part.Due) (sc : Scope) (ss : List Sign) (ms : List Mark) → n.ok ≡ true → Holds t st ns n ds sc ss → Inks ms p d d' n.pen → costs ds + 6 * length ss ≤ steps → o ≡ (run steps ds sc ss >>= λ r. some (after ms r)) → Going t st ns d d' p n steps o
   over : n.ok ≡ false → o ≡ none → Going t st ns d d' p n steps o
 
@@ -156,7 +157,7 @@ after_both ms ns none = refl
 after_both ms ns (some r) = ap (λ (x : List Mark). some (record { marks = x; scope = r.scope; rest = r.rest })) (sym (append_assoc ms ns r.marks))
 
 -- at most 16,384 signs, so the work memory and 98,400 steps are enough for the formula that is due
-going-first : {t st st' ns : List ℕ} {at top : ℕ} (p : Pen) (sort : dues.Sort) (d : List ℕ) → Pushes (D.Formula sort) st st' 0 top → length t ≤ 16384 → Roomy st ns → (ss : List Sign) → signs_at t at ≡ some ss → Going t st' ns d d p (record { ok = true; at = at; top = top; bound = 0; pen = p }) 98400 (formula_at (sort_is sort) ss)
+going-first : {t : List ℕ} {st st' : Stack} {ns : List ℕ} {at top : ℕ} (p : Pen) (sort : dues.Sort) (d : List ℕ) → Pushes (D.Formula sort) st st' 0 top → length t ≤ 16384 → Roomy st ns → (ss : List Sign) → signs_at t at ≡ some ss → Going t st' ns d d p (record { ok = true; at = at; top = top; bound = 0; pen = p }) 98400 (formula_at (sort_is sort) ss)
 unfolding formula_at
 going-first {t} {at = at} p sort d push short roomy ss here =
     let few = signs-few t at ss here in
@@ -174,19 +175,19 @@ going-first {t} {at = at} p sort d push short roomy ss here =
     (run-enough (5 + 6 * length ss) 98400 ds [] ss (omega arith) (omega arith) ∙ from_nothing (run 98400 ds [] ss))
 
 -- no step is left, but a due: there is no formula
-going-out : {t st ns d d' : List ℕ} {p : Pen} {n : Now} {steps : ℕ} {o : Option Ran} → 0 < n.top → steps ≡ 0 → Going t st ns d d' p n steps o → o ≡ none
+going-out : {t : List ℕ} {st : Stack} {ns d d' : List ℕ} {p : Pen} {n : Now} {steps : ℕ} {o : Option Ran} → 0 < n.top → steps ≡ 0 → Going t st ns d d' p n steps o → o ≡ none
 unfolding run
 going-out high e (on [] sc ss ms f h i c q) = absurd (omega (arith, h.dues))
 going-out high e (on (x ∷ ds) sc ss ms f h i c q) = q ∙ ap (λ (k : ℕ). run k (x ∷ ds) sc ss >>= λ r. some (after ms r)) e
 going-out high e (over f q) = q
 
 -- what stood there is outside the part
-going-wrong : {t st ns d d' : List ℕ} {p : Pen} {n : Now} {steps : ℕ} {o : Option Ran} → n.ok ≡ false → Going t st ns d d' p n steps o → o ≡ none
+going-wrong : {t : List ℕ} {st : Stack} {ns d d' : List ℕ} {p : Pen} {n : Now} {steps : ℕ} {o : Option Ran} → n.ok ≡ false → Going t st ns d d' p n steps o → o ≡ none
 going-wrong e (on ds sc ss ms f h i c q) = absurd (false≢true (sym e ∙ f))
 going-wrong e (over f q) = q
 
 -- nothing is due any more
-going_done : {t st ns d d' : List ℕ} {p : Pen} {n : Now} {steps : ℕ} {o : Option Ran} → n.top ≤ 0 → Going t st ns d d' p n steps o → ReadAs o t d d' p n
+going_done : {t : List ℕ} {st : Stack} {ns d d' : List ℕ} {p : Pen} {n : Now} {steps : ℕ} {o : Option Ran} → n.top ≤ 0 → Going t st ns d d' p n steps o → ReadAs o t d d' p n
 going_done {t} {d = d} {d'} {p} {n} {steps} low (on [] sc ss ms f h i c q) =
     subst (λ (x : Option Ran). ReadAs x t d d' p n) (sym (q ∙ ap (λ (x : Option Ran). x >>= λ r. some (after ms r)) (run_none steps sc ss)))
     (f, h.signs, subst (λ (x : List Mark). Inks x p d d' n.pen) (sym (append-nil ms)) i)
@@ -194,7 +195,7 @@ going_done low (on (x ∷ ds) sc ss ms f h i c q) = absurd (omega (arith, h.dues
 going_done {t} {d = d} {d'} {p} {n} low (over f q) = subst (λ (x : Option Ran). ReadAs x t d d' p n) (sym q) f
 
 -- what one due did, with k steps left
-done_next : {t st ns d d' d'' : List ℕ} {p q : Pen} {n : Now} {o : Option Ran} (k : ℕ) (x : part.Due) (ds : List part.Due) (sc : Scope) (ss : List Sign) (ms : List Mark) (y : Option Did) → due_at x sc ss ≡ y → DoneAs y ds t st ns d' d'' q n → Inks ms p d d' q → costs (x ∷ ds) + 6 * length ss ≤ suc k → o ≡ (run (suc k) (x ∷ ds) sc ss >>= λ r. some (after ms r)) → Going t st ns d d'' p n k o
+done_next : {t : List ℕ} {st : Stack} {ns d d' d'' : List ℕ} {p q : Pen} {n : Now} {o : Option Ran} (k : ℕ) (x : part.Due) (ds : List part.Due) (sc : Scope) (ss : List Sign) (ms : List Mark) (y : Option Did) → due_at x sc ss ≡ y → DoneAs y ds t st ns d' d'' q n → Inks ms p d d' q → costs (x ∷ ds) + 6 * length ss ≤ suc k → o ≡ (run (suc k) (x ∷ ds) sc ss >>= λ r. some (after ms r)) → Going t st ns d d'' p n k o
 unfolding run
 done_next k x ds sc ss ms none e h i c g =
     over h (g ∙ ap (λ (z : Option Did). z >>= (λ z. run k (z.dues ++ ds) z.scope z.rest >>= λ r. some (after z.marks r)) >>= λ r. some (after ms r)) e)
@@ -206,7 +207,7 @@ done_next k x ds sc ss ms (some y) e (f, h, j) i c g =
     ∙ ap (λ (z : Option Did). z >>= (λ z. run k (z.dues ++ ds) z.scope z.rest >>= λ r. some (after z.marks r)) >>= λ r. some (after ms r)) e
     ∙ after_both ms y.marks (run k (y.dues ++ ds) y.scope y.rest))
 
-going_next : {t st st' ns ns' d d' d'' : List ℕ} {p : Pen} {n m : Now} {steps : ℕ} {o : Option Ran} → Steps t st st' ns ns' d' d'' n m → length t ≤ 16384 → 0 < n.top → (steps ≡ 0 → ⊥) → n.ok ≡ true → Going t st ns d d' p n steps o → Going t st' ns' d d'' p m (steps - 1) o
+going_next : {t : List ℕ} {st st' : Stack} {ns ns' d d' d'' : List ℕ} {p : Pen} {n m : Now} {steps : ℕ} {o : Option Ran} → Steps t st st' ns ns' d' d'' n m → length t ≤ 16384 → 0 < n.top → (steps ≡ 0 → ⊥) → n.ok ≡ true → Going t st ns d d' p n steps o → Going t st' ns' d d'' p m (steps - 1) o
 going_next step short high more ok (on [] sc ss ms f h i c q) = absurd (omega (arith, h.dues))
 going_next {steps = steps} step short high more ok (on (x ∷ ds) sc ss ms f h i c q) =
     let s : steps ≡ suc (steps - 1) = omega arith in
@@ -214,24 +215,24 @@ going_next {steps = steps} step short high more ok (on (x ∷ ds) sc ss ms f h i
 going_next step short high more ok (over f q) = absurd (false≢true (sym f ∙ ok))
 
 -- from one place of the loop to another
-pub record Runs (t st st' ns ns' d d' : List ℕ) (n m : Now) (steps left : ℕ) : Type 0 where
+pub record Runs (t : List ℕ) (st st' : Stack) (ns ns' d d' : List ℕ) (n m : Now) (steps left : ℕ) : Type 0 where
   pub kept : Kept st st' ns ns' d d'
   pub goes : length t ≤ 16384 → (o : Option Ran) → Going t st ns d d n.pen n steps o → Going t st' ns' d d' n.pen m left o
 
-pub runs-first : (t st ns d : List ℕ) (n : Now) (steps : ℕ) → Runs t st st ns ns d d n n steps steps
+pub runs-first : (t : List ℕ) (st : Stack) (ns d : List ℕ) (n : Now) (steps : ℕ) → Runs t st st ns ns d d n n steps steps
 runs-first t st ns d n _ = record { kept = record { stack = refl; names = refl; bytes = refl }; goes = λ _ o g. g }
 
-kept_then : {st st' st'' ns ns' ns'' d d' d'' : List ℕ} → Kept st st' ns ns' d d' → Kept st' st'' ns' ns'' d' d'' → Kept st st'' ns ns'' d d''
+kept_then : {st st' st'' : Stack} {ns ns' ns'' d d' d'' : List ℕ} → Kept st st' ns ns' d d' → Kept st' st'' ns' ns'' d' d'' → Kept st st'' ns ns'' d d''
 kept_then a b = record { stack = b.stack ∙ a.stack; names = b.names ∙ a.names; bytes = b.bytes ∙ a.bytes }
 
-pub runs-next : {t st st' st'' ns ns' ns'' d d' d'' : List ℕ} {n m r : Now} {steps left : ℕ} → Runs t st st' ns ns' d d' n m steps left → 0 < m.top → (left ≡ 0 → ⊥) → m.ok ≡ true → Steps t st' st'' ns' ns'' d' d'' m r → Runs t st st'' ns ns'' d d'' n r steps (left - 1)
+pub runs-next : {t : List ℕ} {st st' st'' : Stack} {ns ns' ns'' d d' d'' : List ℕ} {n m r : Now} {steps left : ℕ} → Runs t st st' ns ns' d d' n m steps left → 0 < m.top → (left ≡ 0 → ⊥) → m.ok ≡ true → Steps t st' st'' ns' ns'' d' d'' m r → Runs t st st'' ns ns'' d d'' n r steps (left - 1)
 runs-next runs high more ok step = record {
   kept = kept_then runs.kept step.kept;
   goes = λ short o g. going_next step short high more ok (runs.goes short o g);
 }
 
 -- a formula, from the due that is pushed to where the loop is left
-module _ {t st st' st'' ns ns'' d d'' : List ℕ} {at top left : ℕ} {p : Pen} {n : Now} (sort : dues.Sort) (push : Pushes (D.Formula sort) st st' 0 top) (runs : Runs t st' st'' ns ns'' d d'' (record { ok = true; at = at; top = top; bound = 0; pen = p }) n 98400 left) where
+module _ {t : List ℕ} {st st' st'' : Stack} {ns ns'' d d'' : List ℕ} {at top left : ℕ} {p : Pen} {n : Now} (sort : dues.Sort) (push : Pushes (D.Formula sort) st st' 0 top) (runs : Runs t st' st'' ns ns'' d d'' (record { ok = true; at = at; top = top; bound = 0; pen = p }) n 98400 left) where
   formula-kept : Kept st st'' ns ns'' d d''
   formula-kept = kept_then (record { stack = push.long; names = refl; bytes = refl }) runs.kept
 

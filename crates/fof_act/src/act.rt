@@ -11,11 +11,12 @@ ghost use Rattle.fof_pass.specs.Ink.{Inks};
 ghost use Rattle.fof_pass.specs.Names.{Scoped};
 ghost use Rattle.fof_act.specs.Holding.{named_marks, variable_marks, WrittenAs, Writing, Binding, Pushing, Acts};
 
-use fof_pass::{Ahead, Number, Pen, cut, end, enter, head, heads, number, number_of, push, string};
+use fof_pass::{Ahead, Due, Pen, cut, end, enter, head, heads, number, number_of, push, string};
 use fof_plan::{Plan, Writes};
 use sexp::is_name_of;
 
 // How far a formula is read: whether it is of the part so far, the place, the dues and the bound variables, and the pen.
+// Kept: the definitions DoneAs and ReadAs, and Bodies of fof_lines, have the flag as a field.
 #[derive(Clone, Copy)]
 pub struct Now {
     pub ok: bool,
@@ -26,6 +27,7 @@ pub struct Now {
 }
 
 // What was written, if it could be.
+// Kept: the definitions WrittenAs and Writing have the flag as a field, and `act` hands both values on as they are.
 #[derive(Clone, Copy)]
 pub struct Wrote {
     pub ok: bool,
@@ -52,12 +54,13 @@ fn named(text: &[u8], buf: &mut [u8], pen: Pen, a: Ahead, word: &[u8]) -> Wrote
 }
 
 // A variable by its number.
+// Kept: what is bound is the front of `names`, of which `bind` writes the next place; the text isn't what ends there.
 fn variable(text: &[u8], names: &[usize], bound: usize, buf: &mut [u8], pen: Pen, a: Ahead) -> Wrote
     ensures { (sc : Scope) → Scoped text.now names.now bound sc → WrittenAs (variable_marks sc (between text.now a.start a.end)) result pen buf.old buf.new }
 {
     match number_of(text, names, bound, cut(text, a.start, a.end)) {
-        Number::Free => Wrote { ok: false, pen },
-        Number::Bound(i) => {
+        None => Wrote { ok: false, pen },
+        Some(i) => {
             let p = head(buf, pen, b"v");
             let p = number(buf, p, i);
             done(end(buf, p))
@@ -94,6 +97,7 @@ fn quantifier(buf: &mut [u8], pen: Pen, every: bool) -> Pen
 }
 
 // What a plan writes.
+// Kept: `bound` is the front of `names`, as in `variable`; the memory is lent to each function apart, since each writes another part of it.
 fn write(
     text: &[u8],
     names: &[usize],
@@ -119,20 +123,8 @@ fn write(
     }
 }
 
-// One more, as far as a text can have them; and one less, if there is one.
-fn one_more(n: usize) -> usize
-    ensures { n ≤ 16384 → result ≡ n + 1 }
-{
-    if n < 16385 { n + 1 } else { n }
-}
-
-fn one_less(n: usize) -> usize
-    ensures { result ≡ n - 1 }
-{
-    if n == 0 { 0 } else { n - 1 }
-}
-
 // How many variables are bound then.
+// Kept: this writes the place where the slice would end.
 fn bind(names: &mut [usize], bound: usize, at: usize, w: Writes) -> usize
     ensures { Binding names.old names.new bound at w result }
 {
@@ -142,19 +134,20 @@ fn bind(names: &mut [usize], bound: usize, at: usize, w: Writes) -> usize
         Writes::Implies => bound,
         Writes::Binds(_) => {
             enter(names, bound, at);
-            one_more(bound)
+            bound.saturating_add(1)
         }
         Writes::Top => bound,
         Writes::Atom => bound,
         Writes::Function => bound,
         Writes::Variable => bound,
         Writes::End => bound,
-        Writes::Leaves => one_less(bound),
+        Writes::Leaves => bound.saturating_sub(1),
     }
 }
 
 // What a plan leaves due, its first due on top.
-fn pushed(stack: &mut [usize], top: usize, p: Plan) -> usize
+// Kept: this writes the places from where the slice would end.
+fn pushed(stack: &mut [Due], top: usize, p: Plan) -> usize
     ensures { Pushing stack.old stack.new top p result }
 {
     let fourth = p.fourth;
@@ -177,7 +170,7 @@ fn place(takes: bool, end: usize, at: usize) -> usize
 // A plan carried out, where the sign ahead is known.
 pub fn act(
     text: &[u8],
-    stack: &mut [usize],
+    stack: &mut [Due],
     names: &mut [usize],
     buf: &mut [u8],
     n: Now,
@@ -188,13 +181,7 @@ pub fn act(
 {
     let pen = n.pen;
     if !p.ok {
-        return Now {
-            ok: false,
-            at: n.at,
-            top: n.top,
-            bound: n.bound,
-            pen,
-        };
+        return Now { ok: false, ..n };
     }
     let writes = p.writes;
     let w = write(text, names, n.bound, buf, pen, a, writes);

@@ -4,53 +4,32 @@ ghost use Rattle.fof_pass.specs.Dues.{sort_is};
 ghost use Rattle.fof_act.specs.Holding.{Steps, Formulas};
 
 use crate::act::{Now, act};
-use fof_pass::{Due, Pen, Sort, due_of, entry, push, sign_ahead};
+use fof_pass::{Due, Pen, Sort, entry, push, sign_ahead};
 use fof_plan::plan_for;
 
-// The height below the due on top.
-fn below(top: usize) -> usize
-    ensures { result ≡ top - 1 }
-{
-    if top == 0 { 0 } else { top - 1 }
-}
-
 // The due on top.
-fn step(text: &[u8], stack: &mut [usize], names: &mut [usize], buf: &mut [u8], n: Now) -> Now
+fn step(text: &[u8], stack: &mut [Due], names: &mut [usize], buf: &mut [u8], n: Now) -> Now
     ensures { Steps text.now stack.old stack.new names.old names.new buf.old buf.new n result }
 {
-    let top = below(n.top);
-    let d = due_of(entry(stack, top));
+    let top = n.top.saturating_sub(1);
+    let d = entry(stack, top, Due::Nothing);
     let a = sign_ahead(text, n.at);
-    let p = plan_for(text, n.at, d, a.code);
-    let pen = n.pen;
-    let m = Now {
-        ok: n.ok,
-        at: n.at,
-        top,
-        bound: n.bound,
-        pen,
-    };
+    let p = plan_for(text, n.at, d, a.sign);
+    let m = Now { top, ..n };
     act(text, stack, names, buf, m, a, p)
 }
 
-// No formula of the part.
-fn stopped(n: Now) -> Now
+// No formula of the part, or none of a line.
+pub fn stopped(n: Now) -> Now
     ensures { result.ok ≡ false }
 {
-    let pen = n.pen;
-    Now {
-        ok: false,
-        at: n.at,
-        top: n.top,
-        bound: n.bound,
-        pen,
-    }
+    Now { ok: false, ..n }
 }
 
 // A formula of a sort, with as many steps as the bytes left can need.
 pub fn formula(
     text: &[u8],
-    stack: &mut [usize],
+    stack: &mut [Due],
     names: &mut [usize],
     buf: &mut [u8],
     pen: Pen,
@@ -68,6 +47,7 @@ pub fn formula(
         pen,
     };
     let mut left = 98400usize;
+    // Kept: the turns are counted down beside the loop's own test, which comes first; behind a `for` over them it would be made once more.
     while 0 < n.top {
         if left == 0 {
             return stopped(n);

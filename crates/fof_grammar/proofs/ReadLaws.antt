@@ -13,15 +13,16 @@ use Rattle.harrop.specs.Bindings.{same_name}
 use Rattle.harrop.proofs.SameLaws.{same-names-equal, name-same}
 use Rattle.fof_tokens.specs.declared.Kind.{Kind}
 use Rattle.fof_tokens.specs.declared.Kind.TheVariants as K
-use Rattle.fof_tokens.specs.declared.Lexed.{Lexed}
-use Rattle.fof_tokens.specs.declared.Lexed.TheVariants as lexed
+use Rattle.std.specs.Prelude.{Some, None, Result, Ok, Err}
+use Rattle.std.specs.Result.{IsErr}
+use Rattle.fof_tokens.specs.declared.NoToken.{NoToken}
+use Rattle.fof_tokens.specs.Lexed.{Lexed}
+use Rattle.fof_tokens.specs.Lexed as lexed
 use Rattle.fof_tokens.specs.Token.{Token}
 use Rattle.fof_tokens.specs.Lexes.{Lexes, ends, fails, drops, takes}
 use Rattle.fof_tokens.specs.Next.{lexed_at, tokens_at, tokens_by, tokens}
 use Rattle.fof_tokens.proofs.CutsLaws.{longest-filled}
 use Rattle.fof_tokens.proofs.NextLaws.{lexed-right, tokens-next}
-use Rattle.fof_grammar.specs.declared.read.Tokens.{Tokens}
-use Rattle.fof_grammar.specs.declared.read.Tokens.TheVariants.{Count, Bad}
 use Rattle.fof_productions.specs.Terminal.{'fof', other_word, '$fof', '$cnf', '$fot', other-dollar, same_octets, terminal, code}
 use Rattle.fof_productions.specs.Sound.{terminal_of}
 use Rattle.fof_grammar.specs.Read.{ReadAs}
@@ -51,14 +52,14 @@ by-dollar w a b c e f g =
 
 -- a token lies where it is looked for, and has bytes
 abbrev Within : ℕ → List ℕ → Lexed → Type 0
-Within at u lexed.End = Unit {0}
-Within at u lexed.Bad = Unit {0}
-Within at u (lexed.Token k s e) = (at ≤ s) × (s < e) × (e ≤ at + length u)
+Within at u (Ok None) = Unit {0}
+Within at u (Err e) = Unit {0}
+Within at u (Ok (Some k)) = (at ≤ k.start) × (k.start < k.end) × (k.end ≤ at + length u)
 
 further : (at n : ℕ) (u : List ℕ) (r : Lexed) → n ≤ length u → Within (at + n) (drop n u) r → Within at u r
-further at n u lexed.End l h = tt
-further at n u lexed.Bad l h = tt
-further at n u (lexed.Token k s e) l (a, b, c) = let d = length-drop n u in (omega arith, b, omega arith)
+further at n u (Ok None) l h = tt
+further at n u (Err e) l h = tt
+further at n u (Ok (Some k)) l (a, b, c) = let d = length-drop n u in (omega arith, b, omega arith)
 
 lexes-within : {at : ℕ} {u : List ℕ} {r : Lexed} → Lexes at u r → Within at u r
 lexes-within ends = tt
@@ -66,7 +67,7 @@ lexes-within (fails f) = tt
 lexes-within (drops {at = at} {n = n} {t = t} {r = r} l g x) = further at n t r l.within (lexes-within x)
 lexes-within (takes {at = at} {n = n} {t = t} l i) = let h = longest-filled t n l in let m = l.within in (omega arith, omega arith, omega arith)
 
-pub token-within : (text : List ℕ) (at : ℕ) (k : Kind) (s e : ℕ) → at ≤ length text → lexed.Token k s e ≡ lexed_at text at → (at ≤ s) × (s < e) × (e ≤ length text)
+pub token-within : (text : List ℕ) (at : ℕ) (k : Kind) (s e : ℕ) → at ≤ length text → lexed.token k s e ≡ lexed_at text at → (at ≤ s) × (s < e) × (e ≤ length text)
 token-within text at k s e h q =
     let (a, b, c) = subst (Within at (drop at text)) (sym q) (lexes-within (lexed-right text at)) in
     let d = length-drop at text in
@@ -99,16 +100,16 @@ module _ (text codes : List ℕ) (at n : ℕ) (r : Reading text codes at n) wher
   next-is : (x : Lexed) → x ≡ lexed_at text at → tokens_at text at ≡ tokens_by text x
   next-is x e = tokens-next text at ∙ ap (tokens_by text) (sym e)
 
-  pub reads-bad : lexed.Bad ≡ lexed_at text at → tokens text ≡ none
-  reads-bad e = r.told ∙ ap (λ (o : Option (List Token)). o >>= λ ts. some (r.before ++ ts)) (next-is lexed.Bad e)
+  pub reads-bad : lexed.bad ≡ lexed_at text at → tokens text ≡ none
+  reads-bad e = r.told ∙ ap (λ (o : Option (List Token)). o >>= λ ts. some (r.before ++ ts)) (next-is lexed.bad e)
 
-  pub reads_all : lexed.End ≡ lexed_at text at → (n ≤ length text) × ((ts : List Token) × (tokens text ≡ some ts) × (take n codes ≡ map code (map terminal_of ts)))
+  pub reads_all : lexed.ended ≡ lexed_at text at → (n ≤ length text) × ((ts : List Token) × (tokens text ≡ some ts) × (take n codes ≡ map code (map terminal_of ts)))
   reads_all e =
       let i = r.inside in
       let f = r.few in
-      (omega arith, (r.before, r.told ∙ ap (λ (o : Option (List Token)). o >>= λ ts. some (r.before ++ ts)) (next-is lexed.End e) ∙ ap some (append-nil r.before), r.put))
+      (omega arith, (r.before, r.told ∙ ap (λ (o : Option (List Token)). o >>= λ ts. some (r.before ++ ts)) (next-is lexed.ended e) ∙ ap some (append-nil r.before), r.put))
 
-  module _ (k : Kind) (s e : ℕ) (q : lexed.Token k s e ≡ lexed_at text at) where
+  module _ (k : Kind) (s e : ℕ) (q : lexed.token k s e ≡ lexed_at text at) where
     abbrev it : Token
     it = record { kind = k; at = s; bytes = take (e - s) (drop s text) }
 
@@ -126,18 +127,23 @@ module _ (text codes : List ℕ) (at n : ℕ) (r : Reading text codes at n) wher
         let f = r.few in
         record {
           before = r.before ++ it ∷ [];
-          told = r.told ∙ ap (λ (o : Option (List Token)). o >>= λ ts. some (r.before ++ ts)) (next-is (lexed.Token k s e) q) ∙ one_more (tokens_at text e);
+          told = r.told ∙ ap (λ (o : Option (List Token)). o >>= λ ts. some (r.before ++ ts)) (next-is (lexed.token k s e) q) ∙ one_more (tokens_at text e);
           put = put_last codes n x l ∙ ap (λ (u : List ℕ). u ++ x ∷ []) r.put ∙ ap (λ (y : ℕ). map code (map terminal_of r.before) ++ y ∷ []) m ∙ sym (mapped r.before);
           inside = c;
           few = omega arith;
         }
 
 -- by what was answered
-pub counted : (text codes : List ℕ) (r : Tokens) (n : ℕ) → r ≡ Count n → ReadAs text codes r → ReadAs text codes (Count n)
+pub counted : (text codes : List ℕ) (r : Result ℕ NoToken) (n : ℕ) → r ≡ Ok n → ReadAs text codes r → ReadAs text codes (Ok n)
 counted text codes r n e h = subst (ReadAs text codes) e h
 
-pub uncut : (text codes : List ℕ) (r : Tokens) → r ≡ Bad → ReadAs text codes r → tokens text ≡ none
-uncut text codes r e h = subst (ReadAs text codes) e h
+pub uncut : (text codes : List ℕ) (r : Result ℕ NoToken) → {e : NoToken} → r ≡ Err e → ReadAs text codes r → tokens text ≡ none
+uncut text codes r f h = subst (ReadAs text codes) f h
+
+-- something is no token
+pub refused : (text codes : List ℕ) (r : Result ℕ NoToken) → IsErr r → tokens text ≡ none → ReadAs text codes r
+refused text codes (Ok n) h e = cc
+refused text codes (Err x) h e = e
 
 -- the first n of a list that is long enough
 pub short-prefix : (codes : List ℕ) (n m k : ℕ) → n ≤ m → m ≤ k → length codes ≡ k → n ≤ length codes

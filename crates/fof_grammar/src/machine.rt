@@ -9,26 +9,26 @@ ghost use Rattle.fof_productions.specs.Decided.{choices, decided, looks};
 ghost use Rattle.fof_productions.specs.Grammar.{productions};
 ghost use Rattle.fof_productions.specs.Coded.{name_at, token_at, flat, alternative_at, Holds};
 
+// Kept: tokens, names and alternatives are numbers of a byte here, since they index the tables, and a stack of bytes is the fixed memory that there is.
 use crate::table::{choice, symbol, width};
 
 // The number of the next token, or of the end.
+// Kept: behind the end this answers the number of the end, 37, and sexp's `byte` and room's `word` answer 0; a parameter for that would stand in all their clauses.
 fn next(codes: &[u8], at: usize) -> u8
     ensures { result ≡ get_or codes.now at 37 }
 {
-    if at < codes.len() { codes[at] } else { 37 }
+    codes.get(at).copied().unwrap_or(37)
 }
 
 // The number of the next token that is no `(`, or of the end.
 fn beyond(codes: &[u8], at: usize) -> u8
     ensures { (w : List Terminal) → codes.now ≡ map code w → (result ≤ 37) × (ahead decided true (drop at w) ≡ token_at result) }
 {
-    let mut i = at;
-    while i < codes.len() {
+    for i in at..codes.len() {
         let c = codes[i];
         if c != 13 {
             return c;
         }
-        i += 1;
     }
     37
 }
@@ -48,15 +48,14 @@ fn decide(codes: &[u8], at: usize, name: u8) -> u8
 }
 
 // An alternative on top of the stack.
+// Kept: free places are behind the top, and this writes them.
 fn push(stack: &mut [u8], top: usize, k: u8) -> usize
     requires { (k < 120) × (top + length (flat k) ≤ length stack.old) }
     ensures { (ss : List (Symbol Terminal Name)) → Holds stack.old top ss → Holds stack.new result (flat k ++ ss) }
 {
     let n = width(k);
-    let mut i = 0;
-    while i < n {
+    for i in 0..n {
         stack[top + i] = symbol(k, i);
-        i += 1;
     }
     top + n
 }
@@ -69,6 +68,7 @@ pub fn derived(codes: &[u8], stack: &mut [u8]) -> bool
     stack[0] = 75;
     let mut top = 1;
     let mut at = 0;
+    // Kept: the stack goes up and down and the place in the tokens on by none or one, which no range steps by.
     while 0 < top {
         let s = stack[top - 1];
         if s < 75 {

@@ -4,15 +4,8 @@ ghost use Rattle.fof_tokens.specs.declared.Kind.TheVariants as K;
 ghost use Rattle.fof_productions.specs.Terminal.{terminal, code};
 ghost use Rattle.fof_grammar.specs.Read.{ReadAs};
 
-use fof_tokens::{Kind, Lexed, next_token};
+use fof_tokens::{Kind, NoToken, next_token};
 use sexp::same;
-
-// How many tokens there are, unless something in the text is none.
-#[derive(Clone, Copy)]
-pub enum Tokens {
-    Count(usize),
-    Bad,
-}
 
 fn lower_word(w: &[u8]) -> u8
     ensures { result ≡ code (terminal K.Lower w.now) }
@@ -33,6 +26,7 @@ fn dollar_word(w: &[u8]) -> u8
 }
 
 // The number of a token of a kind with these bytes.
+// Kept: the number is the column of the tables (`code`), and a byte of the list that is lent.
 fn number(kind: Kind, w: &[u8]) -> u8
     ensures { result ≡ code (terminal kind w.now) }
 {
@@ -73,26 +67,17 @@ fn number(kind: Kind, w: &[u8]) -> u8
     }
 }
 
-// The numbers of the tokens of a text into a list that is as long as the text.
-pub fn read(text: &[u8], codes: &mut [u8]) -> Tokens
+// The numbers of the tokens of a text into a list that is as long as the text: how many there are, unless something in the text is none.
+pub fn read(text: &[u8], codes: &mut [u8]) -> Result<usize, NoToken>
     requires { length text.now ≤ length codes.old }
     ensures { ReadAs text.now codes.new result }
 {
     let mut at = 0;
     let mut n = 0;
-    loop {
-        match next_token(text, at) {
-            Lexed::End => {
-                return Tokens::Count(n);
-            }
-            Lexed::Bad => {
-                return Tokens::Bad;
-            }
-            Lexed::Token { kind, start, end } => {
-                codes[n] = number(kind, &text[start..end]);
-                n += 1;
-                at = end;
-            }
-        }
+    while let Some(token) = next_token(text, at)? {
+        codes[n] = number(token.kind, &text[token.start..token.end]);
+        n += 1;
+        at = token.end;
     }
+    Ok(n)
 }

@@ -3,7 +3,7 @@ ghost use Rattle.std.specs.Prelude.{◌≡◌};
 ghost use Rattle.fof_productions.specs.Sound.{sound_book};
 
 use crate::machine::derived;
-use crate::read::{Tokens, read};
+use crate::read::read;
 
 // The answer for a text of at most 16,384 bytes; no longer one is a book.
 pub fn sound_text(text: &[u8]) -> bool
@@ -15,7 +15,7 @@ pub fn sound_text(text: &[u8]) -> bool
     let mut codes = [0u8; 16384];
     let mut stack = [0u8; 196621];
     match read(text, &mut codes) {
-        Tokens::Bad => false,
-        Tokens::Count(n) => derived(&codes[..n], &mut stack),
+        Err(_) => false,
+        Ok(n) => derived(&codes[..n], &mut stack),
     }
 }

@@ -13,19 +13,20 @@ use Rattle.harrop.specs.Bindings.{same_name}
 use Rattle.harrop.proofs.SameLaws.{same-names-equal, equal-names-same}
 use Rattle.sexp.specs.Words.{is_name}
 use Rattle.fof_truth.specs.Formula as truth
-use Rattle.fof_part.specs.Sign.{Sign, code, opens_code, closes_code, comma_code, dot_code}
+use Rattle.fof_part.specs.Sign.{Sign, opens_code, closes_code, comma_code, dot_code}
 use Rattle.fof_part.specs.Mark.{Mark}
 use Rattle.fof_part.specs.Due.{Ran, taking, formula_at}
 use Rattle.fof_part.specs.Lines.{word, role_of, sort_of, introduced, Read, line_at}
 use Rattle.fof_pass.specs.declared.ahead.Ahead.{Ahead}
 use Rattle.fof_pass.specs.declared.ink.Pen.{Pen}
 use Rattle.fof_act.specs.declared.act.Now.{Now}
-use Rattle.fof_pass.specs.declared.expected.Taken.{Taken}
-use Rattle.fof_pass.specs.declared.expected.Taken.TheVariants as T
+use Rattle.std.specs.Prelude.{Some, None}
+use Rattle.std.specs.Prelude as std
 use Rattle.fof_lines.specs.declared.line.Role.{Role}
 use Rattle.fof_lines.specs.declared.line.Role.TheVariants as R
 use Rattle.fof_lines.specs.declared.line.Opened.{Opened}
 use Rattle.fof_lines.specs.declared.lines.Passed.{Passed}
+use Rattle.fof_pass.specs.Codes.{code_is}
 use Rattle.fof_pass.specs.Ahead.{signs_at, between, SeesAll, Aheads}
 use Rattle.fof_pass.specs.Ink.{Inks}
 use Rattle.fof_pass.specs.Taking.{TakesTo}
@@ -34,7 +35,7 @@ use Rattle.fof_lines.specs.Lined.{role_is, opened, labelled, roled, OpenedAs, cl
 use Rattle.fof_pass.proofs.InkLaws.{inks-none}
 
 -- no word is ahead
-word-no : (t : List ℕ) (a : Ahead) (ss : List Sign) → (a.code ≡ 0 → ⊥) → SeesAll t a ss → word ss ≡ none
+word-no : (t : List ℕ) (a : Ahead) (ss : List Sign) → ((code_is a.sign) ≡ 0 → ⊥) → SeesAll t a ss → word ss ≡ none
 word-no t a [] n h = refl
 word-no t a (Sign.lower w ∷ ss) n h = absurd (n h.number)
 word-no t a (Sign.upper w ∷ ss) n h = refl
@@ -61,7 +62,7 @@ record Word (t : List ℕ) (a : Ahead) (ss : List Sign) : Type 0 where
   pub bytes : between t a.start a.end ≡ name
   pub behind : signs_at t a.end ≡ some rest
 
-word-yes : (t : List ℕ) (a : Ahead) (ss : List Sign) → a.code ≡ 0 → SeesAll t a ss → Word t a ss
+word-yes : (t : List ℕ) (a : Ahead) (ss : List Sign) → (code_is a.sign) ≡ 0 → SeesAll t a ss → Word t a ss
 word-yes t a [] e h = absurd (omega arith)
 word-yes t a (Sign.lower w ∷ ss) e h = record { name = w; rest = ss; is = refl; bytes = h.name (omega arith); behind = h.rest }
 word-yes t a (Sign.upper w ∷ ss) e h = absurd (omega (arith, h.number))
@@ -93,18 +94,18 @@ same-no {v} x w e f h = go (same_name x w) refl
 
 -- a word that is asked for, with a sign behind it
 module _ (t : List ℕ) (at : ℕ) (a : Ahead) (h : Aheads t at a) (test : Name → Bool) (c : ℕ) where
-  pub asked-none : (a.code ≡ 0 → ⊥) → (ss : List Sign) → signs_at t at ≡ some ss → TakesTo t T.Nowhere (word ss >>= λ f. provided (test f.0) (taking c f.1))
+  pub asked-none : ((code_is a.sign) ≡ 0 → ⊥) → (ss : List Sign) → signs_at t at ≡ some ss → TakesTo t None (word ss >>= λ f. provided (test f.0) (taking c f.1))
   asked-none n ss s = ap (λ (o : Option (Name × List Sign)). o >>= λ f. provided (test f.0) (taking c f.1)) (word-no t a ss n (h.seen ss s))
 
-  asked-as : (e : a.code ≡ 0) {b : Bool} → test (between t a.start a.end) ≡ b → (ss : List Sign) (w : Word t a ss) → (word ss >>= λ f. provided (test f.0) (taking c f.1)) ≡ provided b (taking c w.rest)
+  asked-as : (e : (code_is a.sign) ≡ 0) {b : Bool} → test (between t a.start a.end) ≡ b → (ss : List Sign) (w : Word t a ss) → (word ss >>= λ f. provided (test f.0) (taking c f.1)) ≡ provided b (taking c w.rest)
   asked-as e q ss w =
       ap (λ (o : Option (Name × List Sign)). o >>= λ f. provided (test f.0) (taking c f.1)) w.is
       ∙ ap (λ (b : Bool). provided b (taking c w.rest)) (ap test (sym w.bytes) ∙ q)
 
-  pub asked-other : a.code ≡ 0 → test (between t a.start a.end) ≡ false → (ss : List Sign) → signs_at t at ≡ some ss → TakesTo t T.Nowhere (word ss >>= λ f. provided (test f.0) (taking c f.1))
+  pub asked-other : (code_is a.sign) ≡ 0 → test (between t a.start a.end) ≡ false → (ss : List Sign) → signs_at t at ≡ some ss → TakesTo t None (word ss >>= λ f. provided (test f.0) (taking c f.1))
   asked-other e q ss s = asked-as e q ss (word-yes t a ss e (h.seen ss s))
 
-  pub asked-then : a.code ≡ 0 → test (between t a.start a.end) ≡ true → c < 16 → (r : Taken) → (c < 16 → (ss : List Sign) → signs_at t a.end ≡ some ss → TakesTo t r (taking c ss)) → (ss : List Sign) → signs_at t at ≡ some ss → TakesTo t r (word ss >>= λ f. provided (test f.0) (taking c f.1))
+  pub asked-then : (code_is a.sign) ≡ 0 → test (between t a.start a.end) ≡ true → c < 16 → (r : std.Option ℕ) → (c < 16 → (ss : List Sign) → signs_at t a.end ≡ some ss → TakesTo t r (taking c ss)) → (ss : List Sign) → signs_at t at ≡ some ss → TakesTo t r (word ss >>= λ f. provided (test f.0) (taking c f.1))
   asked-then e q l r k ss s =
       let w = word-yes t a ss e (h.seen ss s) in
       subst (TakesTo t r) (sym (asked-as e q ss w)) (k l w.rest w.behind)
@@ -117,13 +118,13 @@ no-comma : (o : Option truth.Role) → role_then o none ≡ none
 no-comma none = refl
 no-comma (some k) = refl
 
-module _ (t : List ℕ) (at : ℕ) (a : Ahead) (h : Aheads t at a) (r : Opened) where
-  pub role-none : (a.code ≡ 0 → ⊥) → r.role ≡ R.None → (ss : List Sign) → signs_at t at ≡ some ss → OpenedAs (roled ss) t r
-  role-none n q ss s =
-      subst (λ (o : Option (truth.Role × List Sign)). OpenedAs o t r) (sym (ap (λ (o : Option (Name × List Sign)). o >>= λ x. role_then (role_of x.0) (taking comma_code x.1)) (word-no t a ss n (h.seen ss s)))) q
+module _ (t : List ℕ) (at : ℕ) (a : Ahead) (h : Aheads t at a) where
+  pub role-none : ((code_is a.sign) ≡ 0 → ⊥) → (ss : List Sign) → signs_at t at ≡ some ss → OpenedAs (roled ss) t None
+  role-none n ss s =
+      (ap (λ (o : Option (Name × List Sign)). o >>= λ x. role_then (role_of x.0) (taking comma_code x.1)) (word-no t a ss n (h.seen ss s)))
 
-  role-as : (ss : List Sign) (w : Word t a ss) {o : Option truth.Role} {p : Option (List Sign)} → role_of (between t a.start a.end) ≡ o → taking comma_code w.rest ≡ p → OpenedAs (role_then o p) t r → OpenedAs (roled ss) t r
-  role-as ss w {o} {p} e f k =
+  role-as : (r : std.Option Opened) (ss : List Sign) (w : Word t a ss) {o : Option truth.Role} {p : Option (List Sign)} → role_of (between t a.start a.end) ≡ o → taking comma_code w.rest ≡ p → OpenedAs (role_then o p) t r → OpenedAs (roled ss) t r
+  role-as r ss w {o} {p} e f k =
       subst (λ (x : Option (truth.Role × List Sign)). OpenedAs x t r)
       (sym
       (ap (λ (x : Option (Name × List Sign)). x >>= λ x. role_then (role_of x.0) (taking comma_code x.1)) w.is
@@ -132,21 +133,21 @@ module _ (t : List ℕ) (at : ℕ) (a : Ahead) (h : Aheads t at a) (r : Opened) 
       ∙ ap (role_then o) f))
       k
 
-  module _ (e : a.code ≡ 0) (r' : Taken) (k : 7 < 16 → (ss : List Sign) → signs_at t a.end ≡ some ss → TakesTo t r' (taking 7 ss)) where
-    pub role-bare : r' ≡ T.Nowhere → r.role ≡ R.None → (ss : List Sign) → signs_at t at ≡ some ss → OpenedAs (roled ss) t r
-    role-bare f q ss s =
+  module _ (e : (code_is a.sign) ≡ 0) (r' : std.Option ℕ) (k : 7 < 16 → (ss : List Sign) → signs_at t a.end ≡ some ss → TakesTo t r' (taking 7 ss)) where
+    pub role-bare : r' ≡ None → (ss : List Sign) → signs_at t at ≡ some ss → OpenedAs (roled ss) t None
+    role-bare f ss s =
         let w = word-yes t a ss e (h.seen ss s) in
-        let z : taking 7 w.rest ≡ none = subst (λ (x : Taken). TakesTo t x (taking 7 w.rest)) f (k (omega arith) w.rest w.behind) in
-        role-as ss w refl z (subst (λ (x : Option (truth.Role × List Sign)). OpenedAs x t r) (sym (no-comma (role_of (between t a.start a.end)))) q)
+        let z : taking 7 w.rest ≡ none = subst (λ (x : std.Option ℕ). TakesTo t x (taking 7 w.rest)) f (k (omega arith) w.rest w.behind) in
+        role-as None ss w refl z (no-comma (role_of (between t a.start a.end)))
 
-    pub role-other : role_of (between t a.start a.end) ≡ none → r.role ≡ R.None → (ss : List Sign) → signs_at t at ≡ some ss → OpenedAs (roled ss) t r
-    role-other f q ss s = role-as ss (word-yes t a ss e (h.seen ss s)) f refl q
+    pub role-other : role_of (between t a.start a.end) ≡ none → (ss : List Sign) → signs_at t at ≡ some ss → OpenedAs (roled ss) t None
+    role-other f ss s = role-as None ss (word-yes t a ss e (h.seen ss s)) f refl refl
 
-    pub role-is : (n : ℕ) → r' ≡ T.Next n → (x : truth.Role) → role_of (between t a.start a.end) ≡ some x → r.role ≡ role_is x → r.at ≡ n → (ss : List Sign) → signs_at t at ≡ some ss → OpenedAs (roled ss) t r
-    role-is n f x g q m ss s =
+    pub role-is : (n : ℕ) → r' ≡ Some n → (x : truth.Role) → role_of (between t a.start a.end) ≡ some x → (r : Opened) → r.role ≡ role_is x → r.at ≡ n → (ss : List Sign) → signs_at t at ≡ some ss → OpenedAs (roled ss) t (Some r)
+    role-is n f x g r q m ss s =
         let w = word-yes t a ss e (h.seen ss s) in
-        let (us, y, z) = subst (λ (x : Taken). TakesTo t x (taking 7 w.rest)) f (k (omega arith) w.rest w.behind) in
-        role-as ss w g y (q, ap (signs_at t) m ∙ z)
+        let (us, y, z) = subst (λ (x : std.Option ℕ). TakesTo t x (taking 7 w.rest)) f (k (omega arith) w.rest w.behind) in
+        role-as (Some r) ss w g y ((x, us), refl, q, ap (signs_at t) m ∙ z)
 
 pub role-axiom : (w : Name) → same_name w (octets "axiom") ≡ true → role_of w ≡ some truth.Role.as_axiom
 role-axiom w e = ap (λ (b : Bool). choose b (some truth.Role.as_axiom) (choose (same_name w (octets "conjecture")) (some truth.Role.as_conjecture) none)) e
@@ -177,23 +178,23 @@ then-opened ss os e =
     ∙ ap (λ (x : Option (List Sign)). x >>= λ o. word o >>= λ l. provided (is_name l.0) (taking comma_code l.1) >>= roled) e
     ∙ bind-bind (word os) (λ l. provided (is_name l.0) (taking comma_code l.1)) roled
 
-module _ (t : List ℕ) (at : ℕ) (r : Opened) (x : Taken) (h : (ss : List Sign) → signs_at t at ≡ some ss → TakesTo t x (opened ss)) where
-  pub intro-none : x ≡ T.Nowhere → r.role ≡ R.None → (ss : List Sign) → signs_at t at ≡ some ss → OpenedAs (introduced ss) t r
-  intro-none e q ss s =
-      let z : opened ss ≡ none = subst (λ (y : Taken). TakesTo t y (opened ss)) e (h ss s) in
-      subst (λ (o : Option (truth.Role × List Sign)). OpenedAs o t r) (sym (unopened ss z)) q
+module _ (t : List ℕ) (at : ℕ) (x : std.Option ℕ) (h : (ss : List Sign) → signs_at t at ≡ some ss → TakesTo t x (opened ss)) where
+  pub intro-none : x ≡ None → (ss : List Sign) → signs_at t at ≡ some ss → OpenedAs (introduced ss) t None
+  intro-none e ss s =
+      let z : opened ss ≡ none = subst (λ (y : std.Option ℕ). TakesTo t y (opened ss)) e (h ss s) in
+      unopened ss z
 
-  module _ (n : ℕ) (e : x ≡ T.Next n) (y : Taken) (k : (ss : List Sign) → signs_at t n ≡ some ss → TakesTo t y (labelled ss)) where
-    pub intro-bare : y ≡ T.Nowhere → r.role ≡ R.None → (ss : List Sign) → signs_at t at ≡ some ss → OpenedAs (introduced ss) t r
-    intro-bare f q ss s =
-        let (os, z, g) = subst (λ (y : Taken). TakesTo t y (opened ss)) e (h ss s) in
-        let m : labelled os ≡ none = subst (λ (y : Taken). TakesTo t y (labelled os)) f (k os g) in
-        subst (λ (o : Option (truth.Role × List Sign)). OpenedAs o t r) (sym (then-opened ss os z ∙ ap (λ (o : Option (List Sign)). o >>= roled) m)) q
+  module _ (n : ℕ) (e : x ≡ Some n) (y : std.Option ℕ) (k : (ss : List Sign) → signs_at t n ≡ some ss → TakesTo t y (labelled ss)) where
+    pub intro-bare : y ≡ None → (ss : List Sign) → signs_at t at ≡ some ss → OpenedAs (introduced ss) t None
+    intro-bare f ss s =
+        let (os, z, g) = subst (λ (y : std.Option ℕ). TakesTo t y (opened ss)) e (h ss s) in
+        let m : labelled os ≡ none = subst (λ (y : std.Option ℕ). TakesTo t y (labelled os)) f (k os g) in
+        then-opened ss os z ∙ ap (λ (o : Option (List Sign)). o >>= roled) m
 
-    pub intro-then : (i : ℕ) → y ≡ T.Next i → ((ss : List Sign) → signs_at t i ≡ some ss → OpenedAs (roled ss) t r) → (ss : List Sign) → signs_at t at ≡ some ss → OpenedAs (introduced ss) t r
-    intro-then i f q ss s =
-        let (os, z, g) = subst (λ (y : Taken). TakesTo t y (opened ss)) e (h ss s) in
-        let (ls, m, j) = subst (λ (y : Taken). TakesTo t y (labelled os)) f (k os g) in
+    pub intro-then : (r : std.Option Opened) (i : ℕ) → y ≡ Some i → ((ss : List Sign) → signs_at t i ≡ some ss → OpenedAs (roled ss) t r) → (ss : List Sign) → signs_at t at ≡ some ss → OpenedAs (introduced ss) t r
+    intro-then r i f q ss s =
+        let (os, z, g) = subst (λ (y : std.Option ℕ). TakesTo t y (opened ss)) e (h ss s) in
+        let (ls, m, j) = subst (λ (y : std.Option ℕ). TakesTo t y (labelled os)) f (k os g) in
         subst (λ (o : Option (truth.Role × List Sign)). OpenedAs o t r) (sym (then-opened ss os z ∙ ap (λ (o : Option (List Sign)). o >>= roled) m)) (q ls j)
 
 -- a formula that is read, and what closes its line
@@ -202,30 +203,30 @@ module _ (t d d' : List ℕ) (p : Pen) (n r : Now) where
   body-none none e h = h
   body-none (some x) e h = absurd (false≢true (sym e ∙ h.0))
 
-  module _ (x : Taken) (k : closes_code < 16 → (ss : List Sign) → signs_at t n.at ≡ some ss → TakesTo t x (taking closes_code ss)) where
-    pub body_open : (o : Option Ran) → n.ok ≡ true → x ≡ T.Nowhere → r.ok ≡ false → ReadAs o t d d' p n → ReadAs (closed o) t d d' p r
+  module _ (x : std.Option ℕ) (k : closes_code < 16 → (ss : List Sign) → signs_at t n.at ≡ some ss → TakesTo t x (taking closes_code ss)) where
+    pub body_open : (o : Option Ran) → n.ok ≡ true → x ≡ None → r.ok ≡ false → ReadAs o t d d' p n → ReadAs (closed o) t d d' p r
     body_open none e f q h = q
     body_open (some y) e f q h =
-        let z : taking closes_code y.rest ≡ none = subst (λ (u : Taken). TakesTo t u (taking closes_code y.rest)) f (k (omega arith) y.rest h.1) in
+        let z : taking closes_code y.rest ≡ none = subst (λ (u : std.Option ℕ). TakesTo t u (taking closes_code y.rest)) f (k (omega arith) y.rest h.1) in
         subst (λ (o : Option Ran). ReadAs o t d d' p r) (sym (ap (λ (o : Option (List Sign)). o >>= λ c. taking dot_code c >>= λ d. some (record { marks = y.marks; scope = y.scope; rest = d })) z)) q
 
-    module _ (m : ℕ) (f : x ≡ T.Next m) (u : Taken) (l : dot_code < 16 → (ss : List Sign) → signs_at t m ≡ some ss → TakesTo t u (taking dot_code ss)) where
-      pub body-undotted : (o : Option Ran) → n.ok ≡ true → u ≡ T.Nowhere → r.ok ≡ false → ReadAs o t d d' p n → ReadAs (closed o) t d d' p r
+    module _ (m : ℕ) (f : x ≡ Some m) (u : std.Option ℕ) (l : dot_code < 16 → (ss : List Sign) → signs_at t m ≡ some ss → TakesTo t u (taking dot_code ss)) where
+      pub body-undotted : (o : Option Ran) → n.ok ≡ true → u ≡ None → r.ok ≡ false → ReadAs o t d d' p n → ReadAs (closed o) t d d' p r
       body-undotted none e g q h = q
       body-undotted (some y) e g q h =
-          let (cs, z, j) = subst (λ (u : Taken). TakesTo t u (taking closes_code y.rest)) f (k (omega arith) y.rest h.1) in
-          let v : taking dot_code cs ≡ none = subst (λ (u : Taken). TakesTo t u (taking dot_code cs)) g (l (omega arith) cs j) in
+          let (cs, z, j) = subst (λ (u : std.Option ℕ). TakesTo t u (taking closes_code y.rest)) f (k (omega arith) y.rest h.1) in
+          let v : taking dot_code cs ≡ none = subst (λ (u : std.Option ℕ). TakesTo t u (taking dot_code cs)) g (l (omega arith) cs j) in
           subst (λ (o : Option Ran). ReadAs o t d d' p r)
           (sym
           (ap (λ (o : Option (List Sign)). o >>= λ c. taking dot_code c >>= λ d. some (record { marks = y.marks; scope = y.scope; rest = d })) z
           ∙ ap (λ (o : Option (List Sign)). o >>= λ d. some (record { marks = y.marks; scope = y.scope; rest = d })) v))
           q
 
-      pub body-read : (o : Option Ran) → n.ok ≡ true → (i : ℕ) → u ≡ T.Next i → r.ok ≡ true → r.at ≡ i → r.pen ≡ n.pen → ReadAs o t d d' p n → ReadAs (closed o) t d d' p r
+      pub body-read : (o : Option Ran) → n.ok ≡ true → (i : ℕ) → u ≡ Some i → r.ok ≡ true → r.at ≡ i → r.pen ≡ n.pen → ReadAs o t d d' p n → ReadAs (closed o) t d d' p r
       body-read none e i g q a w h = absurd (false≢true (sym h ∙ e))
       body-read (some y) e i g q a w h =
-          let (cs, z, j) = subst (λ (u : Taken). TakesTo t u (taking closes_code y.rest)) f (k (omega arith) y.rest h.1) in
-          let (ds, v, b) = subst (λ (u : Taken). TakesTo t u (taking dot_code cs)) g (l (omega arith) cs j) in
+          let (cs, z, j) = subst (λ (u : std.Option ℕ). TakesTo t u (taking closes_code y.rest)) f (k (omega arith) y.rest h.1) in
+          let (ds, v, b) = subst (λ (u : std.Option ℕ). TakesTo t u (taking dot_code cs)) g (l (omega arith) cs j) in
           subst (λ (o : Option Ran). ReadAs o t d d' p r)
           (sym
           (ap (λ (o : Option (List Sign)). o >>= λ c. taking dot_code c >>= λ d. some (record { marks = y.marks; scope = y.scope; rest = d })) z
@@ -288,40 +289,24 @@ line-is ss k fs e =
     ∙ line_made k (formula_at (sort_of k) fs)
 
 -- no two roles are one
-abbrev IsNone : Role → Type 0
-IsNone R.None = Unit {0}
-IsNone R.Axiom = ⊥
-IsNone R.Conjecture = ⊥
-
 abbrev IsAxiom : Role → Type 0
-IsAxiom R.None = ⊥
 IsAxiom R.Axiom = Unit {0}
 IsAxiom R.Conjecture = ⊥
 
-no-role : (k : truth.Role) → role_is k ≡ R.None → ⊥
-no-role truth.Role.as_axiom e = subst IsNone (sym e) tt
-no-role truth.Role.as_conjecture e = subst IsNone (sym e) tt
+module _ (t rs rs' gs gs' : List ℕ) (p r : Passed) (o : std.Option Opened) where
+  pub line_refused : o ≡ None → r.ok ≡ false → (ss : List Sign) → OpenedAs (introduced ss) t o → AddedAs (line_at ss) t rs rs' gs gs' p r
+  line_refused e q ss h = subst (λ (o : Option Read). AddedAs o t rs rs' gs gs' p r) (sym (line-none ss (subst (OpenedAs (introduced ss) t) e h))) q
 
-module _ (t rs rs' gs gs' : List ℕ) (p r : Passed) (x : Opened) where
-  pub line_refused : x.role ≡ R.None → r.ok ≡ false → (ss : List Sign) → OpenedAs (introduced ss) t x → AddedAs (line_at ss) t rs rs' gs gs' p r
-  line_refused e q ss h = go (introduced ss) refl h
+  pub line-axiom : (x : Opened) → o ≡ Some x → x.role ≡ R.Axiom → ((fs : List Sign) → signs_at t x.at ≡ some fs → AddedAs (lined truth.Role.as_axiom fs) t rs rs' gs gs' p r) → (ss : List Sign) → OpenedAs (introduced ss) t o → AddedAs (line_at ss) t rs rs' gs gs' p r
+  line-axiom x d e q ss h = go (subst (OpenedAs (introduced ss) t) d h)
     where
-      go : (o : Option (truth.Role × List Sign)) → introduced ss ≡ o → OpenedAs o t x → AddedAs (line_at ss) t rs rs' gs gs' p r
-      go none f k = subst (λ (o : Option Read). AddedAs o t rs rs' gs gs' p r) (sym (line-none ss f)) q
-      go (some y) f k = absurd (no-role y.0 (sym k.0 ∙ e))
+      go : OpenedAs (introduced ss) t (Some x) → AddedAs (line_at ss) t rs rs' gs gs' p r
+      go ((truth.Role.as_axiom, fs), f, k, s) = subst (λ (o : Option Read). AddedAs o t rs rs' gs gs' p r) (sym (line-is ss truth.Role.as_axiom fs f)) (q fs s)
+      go ((truth.Role.as_conjecture, fs), f, k, s) = absurd (subst IsAxiom (sym e ∙ k) tt)
 
-  pub line-axiom : x.role ≡ R.Axiom → ((fs : List Sign) → signs_at t x.at ≡ some fs → AddedAs (lined truth.Role.as_axiom fs) t rs rs' gs gs' p r) → (ss : List Sign) → OpenedAs (introduced ss) t x → AddedAs (line_at ss) t rs rs' gs gs' p r
-  line-axiom e q ss h = go (introduced ss) refl h
+  pub line-conjecture : (x : Opened) → o ≡ Some x → x.role ≡ R.Conjecture → ((fs : List Sign) → signs_at t x.at ≡ some fs → AddedAs (lined truth.Role.as_conjecture fs) t rs rs' gs gs' p r) → (ss : List Sign) → OpenedAs (introduced ss) t o → AddedAs (line_at ss) t rs rs' gs gs' p r
+  line-conjecture x d e q ss h = go (subst (OpenedAs (introduced ss) t) d h)
     where
-      go : (o : Option (truth.Role × List Sign)) → introduced ss ≡ o → OpenedAs o t x → AddedAs (line_at ss) t rs rs' gs gs' p r
-      go none f k = absurd (subst IsNone (sym k ∙ e) tt)
-      go (some (truth.Role.as_axiom, fs)) f k = subst (λ (o : Option Read). AddedAs o t rs rs' gs gs' p r) (sym (line-is ss truth.Role.as_axiom fs f)) (q fs k.1)
-      go (some (truth.Role.as_conjecture, fs)) f k = absurd (subst IsAxiom (sym e ∙ k.0) tt)
-
-  pub line-conjecture : x.role ≡ R.Conjecture → ((fs : List Sign) → signs_at t x.at ≡ some fs → AddedAs (lined truth.Role.as_conjecture fs) t rs rs' gs gs' p r) → (ss : List Sign) → OpenedAs (introduced ss) t x → AddedAs (line_at ss) t rs rs' gs gs' p r
-  line-conjecture e q ss h = go (introduced ss) refl h
-    where
-      go : (o : Option (truth.Role × List Sign)) → introduced ss ≡ o → OpenedAs o t x → AddedAs (line_at ss) t rs rs' gs gs' p r
-      go none f k = absurd (subst IsNone (sym k ∙ e) tt)
-      go (some (truth.Role.as_axiom, fs)) f k = absurd (subst IsAxiom (sym k.0 ∙ e) tt)
-      go (some (truth.Role.as_conjecture, fs)) f k = subst (λ (o : Option Read). AddedAs o t rs rs' gs gs' p r) (sym (line-is ss truth.Role.as_conjecture fs f)) (q fs k.1)
+      go : OpenedAs (introduced ss) t (Some x) → AddedAs (line_at ss) t rs rs' gs gs' p r
+      go ((truth.Role.as_axiom, fs), f, k, s) = absurd (subst IsAxiom (sym k ∙ e) tt)
+      go ((truth.Role.as_conjecture, fs), f, k, s) = subst (λ (o : Option Read). AddedAs o t rs rs' gs gs' p r) (sym (line-is ss truth.Role.as_conjecture fs f)) (q fs s)

@@ -24,7 +24,9 @@ use Rattle.fof_part.proofs.CostLaws.{step-pays, costs-append, worth}
 use Rattle.fof_pass.specs.declared.ahead.Ahead.{Ahead}
 use Rattle.fof_pass.specs.declared.ink.Pen.{Pen}
 use Rattle.fof_lines.specs.declared.lines.Passed.{Passed}
+use Rattle.fof_pass.specs.Codes.{code_is}
 use Rattle.fof_pass.specs.Ahead.{signs_at, SeesAll, Aheads}
+use Rattle.fof_pass.specs.Dues.{Stack}
 use Rattle.fof_pass.specs.Ink.{Inks}
 use Rattle.fof_act.specs.Holding.{Roomy}
 use Rattle.fof_lines.specs.Lined.{opened, labelled, roled, Added, AddedAs, KeptBoth, Counted, begins, FiledAs, Starts, Ends}
@@ -241,11 +243,11 @@ code-few Sign.either = omega arith
 code-few Sign.then = omega arith
 code-few Sign.other = omega arith
 
-none_left : (t : List ℕ) (a : Ahead) (ss : List Sign) → a.code ≡ 16 → SeesAll t a ss → ss ≡ []
+none_left : (t : List ℕ) (a : Ahead) (ss : List Sign) → (code_is a.sign) ≡ 16 → SeesAll t a ss → ss ≡ []
 none_left t a [] e h = refl
 none_left t a (s ∷ ss) e h = absurd (omega (arith, h.number, code-few s))
 
-some_left : (t : List ℕ) (a : Ahead) (ss : List Sign) → (a.code ≡ 16 → ⊥) → SeesAll t a ss → (s : Sign) × (us : List Sign) × (ss ≡ s ∷ us)
+some_left : (t : List ℕ) (a : Ahead) (ss : List Sign) → ((code_is a.sign) ≡ 16 → ⊥) → SeesAll t a ss → (s : Sign) × (us : List Sign) × (ss ≡ s ∷ us)
 some_left t a [] n h = absurd (n h)
 some_left t a (s ∷ us) n h = (s, us, refl)
 
@@ -255,14 +257,14 @@ behind is i (some ls) = ap some (sym (append_assoc is (i ∷ []) ls))
 
 module _ (t : List ℕ) (all : List Sign) (q : Passed) (rs rs' gs gs' : List ℕ) (p : Passed) (left : ℕ) (h : Sofar t all q rs rs' gs gs' p left) (a : Ahead) (see : Aheads t p.at a) where
   -- no sign is ahead: all lines are read
-  all_read : a.code ≡ 16 → lines_at all ≡ some h.items
+  all_read : (code_is a.sign) ≡ 16 → lines_at all ≡ some h.items
   all_read e =
       h.whole
       ∙ ap (λ (ss : List Sign). lines_from left ss >>= λ ls. some (h.items ++ ls)) (none_left t a h.signs e (see.seen h.signs h.there))
       ∙ ap (λ (o : Option Items). o >>= λ ls. some (h.items ++ ls)) (lines_none left)
       ∙ ap some (append-nil h.items)
 
-  pub sofar-end : a.code ≡ 16 → (rs₀ rs'' : List ℕ) (r : Passed) → Starts rs₀ rs q → Ends rs' rs'' p r → FiledAs (lines_at all) rs₀ rs'' gs gs' r
+  pub sofar-end : (code_is a.sign) ≡ 16 → (rs₀ rs'' : List ℕ) (r : Passed) → Starts rs₀ rs q → Ends rs' rs'' p r → FiledAs (lines_at all) rs₀ rs'' gs gs' r
   sofar-end e rs₀ rs'' r b z =
       subst (λ (o : Option Items). FiledAs o rs₀ rs'' gs gs' r) (sym (all_read e))
       (record {
@@ -273,7 +275,7 @@ module _ (t : List ℕ) (all : List Sign) (q : Passed) (rs rs' gs gs' : List ℕ
         conjectures = z.conjectures ∙ h.conjectures;
       })
 
-  module _ (n : a.code ≡ 16 → ⊥) where
+  module _ (n : (code_is a.sign) ≡ 16 → ⊥) where
     -- a sign is ahead, and no line may follow
     over_none : (ss : List Sign) → (s : Sign) × (us : List Sign) × (ss ≡ s ∷ us) → lines_from zero ss ≡ none
     unfolding lines_from
@@ -340,13 +342,13 @@ module _ (t : List ℕ) (all : List Sign) (q : Passed) (rs rs' gs gs' : List ℕ
             go (some x) e z = more-read x e z
 
 -- lengths that are kept, one after the other
-pub kept-none : (st ns rs gs : List ℕ) → KeptBoth st st ns ns rs rs gs gs
+pub kept-none : (st : Stack) (ns rs gs : List ℕ) → KeptBoth st st ns ns rs rs gs gs
 kept-none st ns rs gs = record { stack = refl; names = refl; rules = refl; goal = refl }
 
-pub kept_then : {st st1 st2 ns ns1 ns2 rs rs1 rs2 gs gs1 gs2 : List ℕ} → KeptBoth st st1 ns ns1 rs rs1 gs gs1 → KeptBoth st1 st2 ns1 ns2 rs1 rs2 gs1 gs2 → KeptBoth st st2 ns ns2 rs rs2 gs gs2
+pub kept_then : {st st1 st2 : Stack} {ns ns1 ns2 rs rs1 rs2 gs gs1 gs2 : List ℕ} → KeptBoth st st1 ns ns1 rs rs1 gs gs1 → KeptBoth st1 st2 ns1 ns2 rs1 rs2 gs1 gs2 → KeptBoth st st2 ns ns2 rs rs2 gs gs2
 kept_then a b = record { stack = b.stack ∙ a.stack; names = b.names ∙ a.names; rules = b.rules ∙ a.rules; goal = b.goal ∙ a.goal }
 
-pub kept-roomy : {st st1 ns ns1 rs rs1 gs gs1 : List ℕ} → KeptBoth st st1 ns ns1 rs rs1 gs gs1 → Roomy st ns → Roomy st1 ns1
+pub kept-roomy : {st st1 : Stack} {ns ns1 rs rs1 gs gs1 : List ℕ} → KeptBoth st st1 ns ns1 rs rs1 gs gs1 → Roomy st ns → Roomy st1 ns1
 kept-roomy a r = (omega (arith, a.stack, r.0), omega (arith, a.names, r.1))
 
 -- memory of these lengths is room enough

@@ -1,6 +1,8 @@
 -- What is answered of a line, and of all lines: what fof_part's `introduced`, `line_at` and `lines_at` say of the signs ahead.
 use Rattle.std.specs.Prelude.{ℕ, ◌+◌, ◌<◌, ◌≤◌, ◌≡◌, true, false, List, [], ◌∷◌, length}
 use Rattle.std.proofs.Math.Option.{Option, none, some}
+use Rattle.std.specs.Prelude.{Some, None}
+use Rattle.std.specs.Prelude as std
 use Rattle.basics.specs.Choice.{◌>>=◌, provided}
 use Rattle.basics.specs.Text.{octets}
 use Rattle.harrop.specs.Bindings.{same_name}
@@ -13,6 +15,7 @@ use Rattle.fof_part.specs.Lines.{word, role_of, sort_of, introduced, Read, line_
 use Rattle.fof_part.specs.Files.{axiom_then, conjecture_then, axioms_in, conjectures_in, joined, rules_marks}
 use Rattle.fof_pass.specs.declared.ink.Pen.{Pen}
 use Rattle.fof_pass.specs.Ahead.{signs_at}
+use Rattle.fof_pass.specs.Dues.{Stack}
 use Rattle.fof_pass.specs.Ink.{Inks}
 use Rattle.fof_act.specs.declared.act.Now.{Now}
 use Rattle.fof_lines.specs.declared.line.Role.{Role}
@@ -40,11 +43,11 @@ roled ss = do
   some (k, s)
 
 -- fof(label, role, up to the formula
-abbrev pub OpenedAs : Option (truth.Role × List Sign) → List ℕ → Opened → Type 0
-OpenedAs none t r = r.role ≡ R.None
-OpenedAs (some x) t r = (r.role ≡ role_is x.0) × (signs_at t r.at ≡ some x.1)
+abbrev pub OpenedAs : Option (truth.Role × List Sign) → List ℕ → std.Option Opened → Type 0
+OpenedAs o t None = o ≡ none
+OpenedAs o t (Some r) = (x : truth.Role × List Sign) × (o ≡ some x) × (r.role ≡ role_is x.0) × (signs_at t r.at ≡ some x.1)
 
-pub record Introduces (t : List ℕ) (at : ℕ) (r : Opened) : Type 0 where
+pub record Introduces (t : List ℕ) (at : ℕ) (r : std.Option Opened) : Type 0 where
   pub does : (ss : List Sign) → signs_at t at ≡ some ss → OpenedAs (introduced ss) t r
 
 -- a formula and what closes its line
@@ -55,7 +58,7 @@ closed o = do
   d ← taking dot_code c
   some (record { marks = x.marks; scope = x.scope; rest = d })
 
-pub record Bodies (t st st' ns ns' d d' : List ℕ) (p : Pen) (at : ℕ) (s : Sort) (r : Now) : Type 0 where
+pub record Bodies (t : List ℕ) (st st' : Stack) (ns ns' d d' : List ℕ) (p : Pen) (at : ℕ) (s : Sort) (r : Now) : Type 0 where
   pub kept : Kept st st' ns ns' d d'
   pub does : length t ≤ 16384 → Roomy st ns → (ss : List Sign) → signs_at t at ≡ some ss → ReadAs (closed (formula_at s ss)) t d d' p r
 
@@ -73,7 +76,7 @@ AddedAs none t rs rs' gs gs' p r = r.ok ≡ false
 AddedAs (some x) t rs rs' gs gs' p r = Added x t rs rs' gs gs' p r
 
 -- the memory keeps its lengths, both buffers too
-pub record KeptBoth (st st' ns ns' rs rs' gs gs' : List ℕ) : Type 0 where
+pub record KeptBoth (st st' : Stack) (ns ns' rs rs' gs gs' : List ℕ) : Type 0 where
   pub stack : length st' ≡ length st
   pub names : length ns' ≡ length ns
   pub rules : length rs' ≡ length rs
@@ -87,11 +90,11 @@ Counted p = (p.axioms < 16385) × (p.conjectures < 16385)
 abbrev pub lined : truth.Role → List Sign → Option Read
 lined k ss = closed (formula_at (sort_of k) ss) >>= λ x. some (record { role = k; marks = x.marks; rest = x.rest })
 
-pub record Lines (k : truth.Role) (t st st' ns ns' rs rs' gs gs' : List ℕ) (p : Passed) (at : ℕ) (r : Passed) : Type 0 where
+pub record Lines (k : truth.Role) (t : List ℕ) (st st' : Stack) (ns ns' rs rs' gs gs' : List ℕ) (p : Passed) (at : ℕ) (r : Passed) : Type 0 where
   pub kept : KeptBoth st st' ns ns' rs rs' gs gs'
   pub does : length t ≤ 16384 → Roomy st ns → Counted p → (ss : List Sign) → signs_at t at ≡ some ss → AddedAs (lined k ss) t rs rs' gs gs' p r
 
-pub record Adds (t st st' ns ns' rs rs' gs gs' : List ℕ) (p r : Passed) : Type 0 where
+pub record Adds (t : List ℕ) (st st' : Stack) (ns ns' rs rs' gs gs' : List ℕ) (p r : Passed) : Type 0 where
   pub kept : KeptBoth st st' ns ns' rs rs' gs gs'
   pub does : length t ≤ 16384 → Roomy st ns → Counted p → (ss : List Sign) → signs_at t p.at ≡ some ss → AddedAs (line_at ss) t rs rs' gs gs' p r
 
@@ -132,6 +135,6 @@ pub record Ends (rs rs' : List ℕ) (p r : Passed) : Type 0 where
   pub conjectures : r.conjectures ≡ p.conjectures
 
 -- the same with the work memory that is lent
-pub record PassesIn (t st st' ns ns' rs rs' gs gs' : List ℕ) (r : Passed) : Type 0 where
+pub record PassesIn (t : List ℕ) (st st' : Stack) (ns ns' rs rs' gs gs' : List ℕ) (r : Passed) : Type 0 where
   pub kept : KeptBoth st st' ns ns' rs rs' gs gs'
   pub does : length t ≤ 16384 → Roomy st ns → (ss : List Sign) → signs_at t 0 ≡ some ss → FiledAs (lines_at ss) rs rs' gs gs' r

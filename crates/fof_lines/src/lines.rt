@@ -4,9 +4,10 @@ ghost use Rattle.fof_truth.specs.Formula as truth;
 ghost use Rattle.fof_lines.specs.Lined.{Lines, Adds, Starts, Ends, PassesIn, Passes};
 
 use crate::line::{Role, body, introduced};
-use fof_pass::{Pen, Sort, end, head, sign_ahead};
+use fof_pass::{Due, Pen, Sign, Sort, end, head, sign_ahead};
 
 // What became of the lines: whether all are of the part, both pens, and how many rules and goals there are.
+// Kept: the definitions Added, Filed, Starts and Ends, and Sized of tptp, have the flag as a field.
 #[derive(Clone, Copy)]
 pub struct Passed {
     pub ok: bool,
@@ -17,34 +18,19 @@ pub struct Passed {
     pub conjectures: usize,
 }
 
-// One line more; a text has no more than 16,385.
-fn more(n: usize) -> usize
-    ensures { n < 16385 → result ≡ n + 1 }
-{
-    if n < 16385 { n + 1 } else { n }
-}
-
 // A line is none of the part.
 fn refused(p: Passed) -> Passed
     ensures { result.ok ≡ false }
 {
-    let rules = p.rules;
-    let goal = p.goal;
-    Passed {
-        ok: false,
-        at: p.at,
-        rules,
-        goal,
-        axioms: p.axioms,
-        conjectures: p.conjectures,
-    }
+    Passed { ok: false, ..p }
 }
 
 // An axiom, up to its end, into the rules' file.
+// Kept: this and `conjecture` differ in the file, the pen and the count that go on, and not in a type or a constant; what they share is `body`.
 fn axiom(
     text: &[u8],
     rules: &mut [u8],
-    stack: &mut [usize],
+    stack: &mut [Due],
     names: &mut [usize],
     p: Passed,
     at: usize,
@@ -52,43 +38,38 @@ fn axiom(
     ensures { (gs : List ℕ) → Lines truth.Role.as_axiom text.now stack.old stack.new names.old names.new rules.old rules.new gs gs p at result }
 {
     let pen = p.rules;
-    let goal = p.goal;
     let n = body(text, stack, names, rules, pen, at, Sort::Clause);
-    let pen = n.pen;
-    let axioms = more(p.axioms);
+    let axioms = p.axioms.saturating_add(1);
     Passed {
         ok: n.ok,
         at: n.at,
-        rules: pen,
-        goal,
+        rules: n.pen,
         axioms,
-        conjectures: p.conjectures,
+        ..p
     }
 }
 
 // A conjecture, up to its end, into the goal's.
+// Kept: it differs from `axiom` in the file, the pen and the count that go on; what they share is `body`.
 fn conjecture(
     text: &[u8],
     goal: &mut [u8],
-    stack: &mut [usize],
+    stack: &mut [Due],
     names: &mut [usize],
     p: Passed,
     at: usize,
 ) -> Passed
     ensures { (rs : List ℕ) → Lines truth.Role.as_conjecture text.now stack.old stack.new names.old names.new rs rs goal.old goal.new p at result }
 {
-    let rules = p.rules;
     let pen = p.goal;
     let n = body(text, stack, names, goal, pen, at, Sort::Goal);
-    let pen = n.pen;
-    let conjectures = more(p.conjectures);
+    let conjectures = p.conjectures.saturating_add(1);
     Passed {
         ok: n.ok,
         at: n.at,
-        rules,
-        goal: pen,
-        axioms: p.axioms,
+        goal: n.pen,
         conjectures,
+        ..p
     }
 }
 
@@ -97,16 +78,16 @@ fn line(
     text: &[u8],
     rules: &mut [u8],
     goal: &mut [u8],
-    stack: &mut [usize],
+    stack: &mut [Due],
     names: &mut [usize],
     p: Passed,
 ) -> Passed
     ensures { Adds text.now stack.old stack.new names.old names.new rules.old rules.new goal.old goal.new p result }
 {
-    let o = introduced(text, p.at);
-    let role = o.role;
-    match role {
-        Role::None => refused(p),
+    let Some(o) = introduced(text, p.at) else {
+        return refused(p);
+    };
+    match o.role {
         Role::Axiom => axiom(text, rules, stack, names, p, o.at),
         Role::Conjecture => conjecture(text, goal, stack, names, p, o.at),
     }
@@ -136,17 +117,8 @@ fn started(rules: &mut [u8]) -> Passed
 fn ended(rules: &mut [u8], p: Passed) -> Passed
     ensures { Ends rules.old rules.new p result }
 {
-    let pen = p.rules;
-    let goal = p.goal;
-    let pen = end(rules, pen);
-    Passed {
-        ok: p.ok,
-        at: p.at,
-        rules: pen,
-        goal,
-        axioms: p.axioms,
-        conjectures: p.conjectures,
-    }
+    let pen = end(rules, p.rules);
+    Passed { rules: pen, ..p }
 }
 
 // The lines one after the other, until no sign is ahead; a text of 16,384 bytes has fewer than 16,385 of them.
@@ -154,16 +126,17 @@ fn lines(
     text: &[u8],
     rules: &mut [u8],
     goal: &mut [u8],
-    stack: &mut [usize],
+    stack: &mut [Due],
     names: &mut [usize],
 ) -> Passed
     ensures { PassesIn text.now stack.old stack.new names.old names.new rules.old rules.new goal.old goal.new result }
 {
     let mut p = started(rules);
     let mut left = 16385usize;
+    // Kept: the turns are counted down behind the test for a sign; behind a `for` over them it would be made once more.
     loop {
         let a = sign_ahead(text, p.at);
-        if a.code == 16 {
+        if a.sign == Sign::Nothing {
             return ended(rules, p);
         }
         if left == 0 {
@@ -181,7 +154,7 @@ fn lines(
 pub fn pass(text: &[u8], rules: &mut [u8], goal: &mut [u8]) -> Passed
     ensures { Passes text.now rules.old rules.new goal.old goal.new result }
 {
-    let mut stack = [0usize; 98400];
+    let mut stack = [Due::Nothing; 98400];
     let mut names = [0usize; 16385];
     lines(text, rules, goal, &mut stack, &mut names)
 }

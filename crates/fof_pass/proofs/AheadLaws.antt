@@ -3,7 +3,7 @@ use Prim.Native.Nat.{ℕ, ◌+◌, ◌-◌, ◌<◌, ◌≤◌, min}
 use mathlib.Core.Path.{◌≡◌, refl, sym, ◌∙◌, ap, subst}
 use mathlib.Core.Bool.{Bool, true, false}
 use mathlib.Core.List.{List, [], ◌∷◌}
-use mathlib.Core.Option.{Option, none, some, some-injective}
+use mathlib.Core.Option.{Option, some, some-injective}
 use native.Mathlib.Omega.{arith}
 use lib.Dec.{ltb}
 use lib.ListN.{length, take, drop, length-drop, drop_of_length-le}
@@ -16,8 +16,9 @@ use Rattle.harrop.proofs.SameLaws.{same-names-equal, equal-names-same}
 use Rattle.basics.specs.Choice.{choose, ◌>>=◌, nope, bind-some}
 use Rattle.fof_tokens.specs.declared.Kind.{Kind}
 use Rattle.fof_tokens.specs.declared.Kind.TheVariants as K
-use Rattle.fof_tokens.specs.declared.Lexed.{Lexed}
-use Rattle.fof_tokens.specs.declared.Lexed.TheVariants as lexed
+use Rattle.std.specs.Prelude.{Some, None, Ok, Err}
+use Rattle.fof_tokens.specs.Lexed.{Lexed}
+use Rattle.fof_tokens.specs.Lexed as lexed
 use Rattle.fof_tokens.specs.Token.{Token}
 use Rattle.fof_tokens.specs.Lexes.{Lexes, ends, fails, drops, takes}
 use Rattle.fof_tokens.specs.Next.{lexed_at, tokens_at, tokens_by}
@@ -25,18 +26,21 @@ use Rattle.fof_tokens.proofs.CutsLaws.{longest-filled}
 use Rattle.fof_tokens.proofs.NextLaws.{lexed-right, tokens-next}
 use Rattle.fof_part.specs.Sign.{Sign, code, sign_of, signs}
 use Rattle.fof_pass.specs.declared.ahead.Ahead.{Ahead}
-use Rattle.fof_pass.specs.Ahead.{signs_at, between, name_in, Sees, SeesAll, Aheads}
+use Rattle.fof_pass.specs.declared.ahead.Sign as ahead
+use Rattle.fof_pass.specs.declared.ahead.Sign.TheVariants as S
+use Rattle.fof_pass.specs.Codes.{code_is}
+use Rattle.fof_pass.specs.Ahead.{signs_at, between, name_in, SeesAll, Aheads}
 
 -- a token ends behind the offset and in the text
 abbrev Within : Lexed → ℕ → ℕ → Type 0
-Within lexed.End at n = Unit {0}
-Within lexed.Bad at n = Unit {0}
-Within (lexed.Token k s e) at n = (at < e) × (e ≤ n)
+Within (Ok None) at n = Unit {0}
+Within (Err x) at n = Unit {0}
+Within (Ok (Some k)) at n = (at < k.end) × (k.end ≤ n)
 
 wider : (r : Lexed) (a b n m : ℕ) → a ≤ b → n ≤ m → Within r b n → Within r a m
-wider lexed.End a b n m l k h = h
-wider lexed.Bad a b n m l k h = h
-wider (lexed.Token x s e) a b n m l k h = (omega (arith, h.0), omega (arith, h.1))
+wider (Ok None) a b n m l k h = h
+wider (Err x) a b n m l k h = h
+wider (Ok (Some x)) a b n m l k h = (omega (arith, h.0), omega (arith, h.1))
 
 within : {at : ℕ} {u : List ℕ} {r : Lexed} → Lexes at u r → Within r at (at + length u)
 within ends = tt
@@ -90,32 +94,32 @@ module _ (t : List ℕ) (at : ℕ) {r : Lexed} (is : r ≡ lexed_at t at) where
   unfolding signs_at
   by_token ss e = ap (λ (x : Lexed). tokens_by t x >>= λ ts. some (signs ts)) is ∙ ap (λ (o : Option (List Token)). o >>= λ ts. some (signs ts)) (sym (tokens-next t at)) ∙ e
 
-  pub ahead-end : r ≡ lexed.End → {a : Ahead} → a ≡ record { code = 16; start = at; end = at } → Aheads t at a
+  pub ahead-end : r ≡ lexed.ended → {a : Ahead} → a ≡ record { sign = S.Nothing; start = at; end = at } → Aheads t at a
   ahead-end f {a} g = record {
-    seen = λ ss e. subst (SeesAll t a) (some-injective [] ss (ap (λ (x : Lexed). tokens_by t x >>= λ ts. some (signs ts)) (sym f) ∙ by_token ss e)) (ap (λ (x : Ahead). x.code) g);
-    further = λ l. absurd (omega (arith, ap (λ (x : Ahead). x.code) g));
+    seen = λ ss e. subst (SeesAll t a) (some-injective [] ss (ap (λ (x : Lexed). tokens_by t x >>= λ ts. some (signs ts)) (sym f) ∙ by_token ss e)) (ap (λ (x : Ahead). (code_is x.sign)) g);
+    further = λ l. absurd (omega (arith, ap (λ (x : Ahead). (code_is x.sign)) g));
   }
 
-  pub ahead-bad : r ≡ lexed.Bad → {a : Ahead} → a ≡ record { code = 16; start = at; end = at } → Aheads t at a
+  pub ahead-bad : r ≡ lexed.bad → {a : Ahead} → a ≡ record { sign = S.Nothing; start = at; end = at } → Aheads t at a
   ahead-bad f {a} g = record {
     seen = λ ss e. nope (ap (λ (x : Lexed). tokens_by t x >>= λ ts. some (signs ts)) (sym f) ∙ by_token ss e);
-    further = λ l. absurd (omega (arith, ap (λ (x : Ahead). x.code) g));
+    further = λ l. absurd (omega (arith, ap (λ (x : Ahead). (code_is x.sign)) g));
   }
 
-  module _ {k : Kind} {s e : ℕ} (f : r ≡ lexed.Token k s e) where
+  module _ {k : Kind} {s e : ℕ} (f : r ≡ lexed.token k s e) where
     pub token-within : (at < e) × (e ≤ length t)
     token-within =
-        let h : Within (lexed.Token k s e) at (at + length (drop at t)) = subst (λ (x : Lexed). Within x at (at + length (drop at t))) (sym is ∙ f) (within (lexed-right t at)) in
+        let h : Within (lexed.token k s e) at (at + length (drop at t)) = subst (λ (x : Lexed). Within x at (at + length (drop at t))) (sym is ∙ f) (within (lexed-right t at)) in
         (h.0, omega (arith, h.0, h.1, length-drop at t))
 
-    pub ahead-token : {c : ℕ} → c ≡ code (sign_of k (between t s e)) → Aheads t at (record { code = c; start = s; end = e })
+    pub ahead-token : {c : ahead.Sign} → code_is c ≡ code (sign_of k (between t s e)) → Aheads t at (record { sign = c; start = s; end = e })
     unfolding signs_at
     ahead-token {c} g = record {
       seen = λ ss h.
-          let (ts, o, q) = bind-some (tokens_by t (lexed.Token k s e)) (λ ts. some (signs ts)) ss (ap (λ (x : Lexed). tokens_by t x >>= λ ts. some (signs ts)) (sym f) ∙ by_token ss h) in
+          let (ts, o, q) = bind-some (tokens_by t (lexed.token k s e)) (λ ts. some (signs ts)) ss (ap (λ (x : Lexed). tokens_by t x >>= λ ts. some (signs ts)) (sym f) ∙ by_token ss h) in
           let (us, o', q') = bind-some (tokens_at t e) (λ ts. some (record { kind = k; at = s; bytes = between t s e } ∷ ts)) ts o in
           let z = ap signs (some-injective (record { kind = k; at = s; bytes = between t s e } ∷ us) ts q') ∙ some-injective (signs ts) ss q in
-          subst (SeesAll t (record { code = c; start = s; end = e })) z
+          subst (SeesAll t (record { sign = c; start = s; end = e })) z
           (record { number = g; name = λ l. name_in_lem k (between t s e) (omega arith); rest = ap (λ (x : Option (List Token)). x >>= λ ts. some (signs ts)) o' });
       further = λ _. token-within;
     }

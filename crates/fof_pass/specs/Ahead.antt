@@ -5,6 +5,7 @@ use Rattle.basics.specs.Choice.{◌>>=◌}
 use Rattle.harrop.specs.Formula.{Name}
 use Rattle.fof_tokens.specs.Next.{tokens_at}
 use Rattle.fof_part.specs.Sign.{Sign, code, signs}
+use Rattle.fof_pass.specs.Codes.{code_is}
 use Rattle.fof_pass.specs.declared.ahead.Ahead.{Ahead}
 
 unfoldable pub signs_at : List ℕ → ℕ → Option (List Sign)
@@ -35,15 +36,15 @@ name_in Sign.other = []
 
 -- this sign is ahead of an offset, and these are behind it
 pub record Sees (t : List ℕ) (a : Ahead) (s : Sign) (ss : List Sign) : Type 0 where
-  pub number : a.code ≡ code s
-  pub name : a.code < 2 → between t a.start a.end ≡ name_in s
+  pub number : (code_is a.sign) ≡ code s
+  pub name : (code_is a.sign) < 2 → between t a.start a.end ≡ name_in s
   pub rest : signs_at t a.end ≡ some ss
 
 abbrev pub SeesAll : List ℕ → Ahead → List Sign → Type 0
-SeesAll t a [] = a.code ≡ 16
+SeesAll t a [] = (code_is a.sign) ≡ 16
 SeesAll t a (s ∷ ss) = Sees t a s ss
 
 -- what is ahead of an offset; where something is, it ends behind the offset and in the text
 pub record Aheads (t : List ℕ) (at : ℕ) (a : Ahead) : Type 0 where
   pub seen : (ss : List Sign) → signs_at t at ≡ some ss → SeesAll t a ss
-  pub further : a.code < 16 → (at < a.end) × (a.end ≤ length t)
+  pub further : (code_is a.sign) < 16 → (at < a.end) × (a.end ≤ length t)

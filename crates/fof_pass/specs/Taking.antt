@@ -2,10 +2,10 @@
 use Rattle.std.specs.Prelude.{ℕ, ◌≡◌, List}
 use Rattle.std.proofs.Math.Option.{Option, none, some}
 use Rattle.fof_part.specs.Sign.{Sign}
-use Rattle.fof_pass.specs.declared.expected.Taken.{Taken}
-use Rattle.fof_pass.specs.declared.expected.Taken.TheVariants as T
+use Rattle.std.specs.Prelude.{Some, None}
+use Rattle.std.specs.Prelude as std
 use Rattle.fof_pass.specs.Ahead.{signs_at}
 
-abbrev pub TakesTo : List ℕ → Taken → Option (List Sign) → Type 0
-TakesTo t T.Nowhere o = o ≡ none
-TakesTo t (T.Next n) o = (ss : List Sign) × (o ≡ some ss) × (signs_at t n ≡ some ss)
+abbrev pub TakesTo : List ℕ → std.Option ℕ → Option (List Sign) → Type 0
+TakesTo t None o = o ≡ none
+TakesTo t (Some n) o = (ss : List Sign) × (o ≡ some ss) × (signs_at t n ≡ some ss)

@@ -1,93 +1,129 @@
 // The sign ahead of an offset.
-ghost use Rattle.std.specs.Prelude.{◌≡◌, min};
+ghost use Rattle.std.specs.Prelude.{◌≡◌};
 ghost use Rattle.fof_tokens.specs.declared.Kind.TheVariants as K;
 ghost use Rattle.fof_part.specs.Sign.{code, sign_of};
+ghost use Rattle.fof_pass.specs.declared.ahead.Sign.TheVariants as S;
+ghost use Rattle.fof_pass.specs.Codes.{code_is};
 ghost use Rattle.fof_pass.specs.Ahead.{between, Aheads};
 
-use fof_tokens::{Kind, Lexed, next_token};
+use fof_tokens::{Kind, next_token};
 use sexp::same;
 
-// The number of a sign, and where its bytes start and end; 16 where there is none.
+// A sign, named after what it says in a formula.
+#[derive(Clone, Copy, PartialEq, Eq)]
+pub enum Sign {
+    // a word that starts with a small letter
+    Lower,
+    // a word that starts with a capital
+    Upper,
+    // $true
+    Truth,
+    // (
+    Opens,
+    // )
+    Closes,
+    // [
+    Lists,
+    // ]
+    Ends,
+    // ,
+    Comma,
+    // :
+    Colon,
+    // .
+    Dot,
+    // !
+    Every,
+    // ?
+    Exist,
+    // &
+    Both,
+    // |
+    Either,
+    // =>
+    Then,
+    // any other token
+    Other,
+    // Kept: that none is there has its number beside the signs' (`code_is` and `code_ahead`, 16), and a plan refuses it with them; an Option would part what one match tells.
+    // none is there
+    Nothing,
+}
+
+// A sign, and where its bytes start and end.
 #[derive(Clone, Copy)]
 pub struct Ahead {
-    pub code: usize,
+    pub sign: Sign,
     pub start: usize,
     pub end: usize,
 }
 
-// The place that is nearer.
-fn nearer(a: usize, b: usize) -> usize
-    ensures { result ≡ min a b }
-{
-    if a < b { a } else { b }
-}
-
 // The bytes from one place to another.
+// Kept: places in the text are what a token and `Ahead` say (`between`, `Aheads`), beyond its end too, and this makes the piece of them.
 pub fn cut(text: &[u8], start: usize, end: usize) -> &[u8]
     ensures { result.now ≡ between text.now start end }
 {
-    let e = nearer(end, text.len());
-    let s = nearer(start, e);
+    let e = end.min(text.len());
+    let s = start.min(e);
     &text[s..e]
 }
 
-// The number of a word behind a dollar.
-fn dollar_code(text: &[u8], start: usize, end: usize) -> usize
-    ensures { result ≡ code (sign_of K.Dollar (between text.now start end)) }
+// A word behind a dollar.
+fn dollar_sign(w: &[u8]) -> Sign
+    ensures { code_is result ≡ code (sign_of K.Dollar w.now) }
 {
-    if same(cut(text, start, end), b"$true") {
-        return 2;
+    if same(w, b"$true") {
+        return Sign::Truth;
     }
-    15
+    Sign::Other
 }
 
-// A sign's number, by its kind and its bytes.
-fn code_of(text: &[u8], kind: Kind, start: usize, end: usize) -> usize
-    ensures { result ≡ code (sign_of kind (between text.now start end)) }
+// A sign, by its kind and its bytes.
+fn sign_of(kind: Kind, w: &[u8]) -> Sign
+    ensures { code_is result ≡ code (sign_of kind w.now) }
 {
     match kind {
-        Kind::Lower => 0,
-        Kind::Upper => 1,
-        Kind::Dollar => dollar_code(text, start, end),
-        Kind::OpenParen => 3,
-        Kind::CloseParen => 4,
-        Kind::OpenBracket => 5,
-        Kind::CloseBracket => 6,
-        Kind::Comma => 7,
-        Kind::Colon => 8,
-        Kind::Dot => 9,
-        Kind::ForAll => 10,
-        Kind::Exists => 11,
-        Kind::And => 12,
-        Kind::Or => 13,
-        Kind::Implies => 14,
-        Kind::Quoted => 15,
-        Kind::Distinct => 15,
-        Kind::DoubleDollar => 15,
-        Kind::Integer => 15,
-        Kind::Rational => 15,
-        Kind::Real => 15,
-        Kind::OpenBrace => 15,
-        Kind::CloseBrace => 15,
-        Kind::Minus => 15,
-        Kind::Not => 15,
-        Kind::Equal => 15,
-        Kind::Unequal => 15,
-        Kind::ImpliedBy => 15,
-        Kind::Iff => 15,
-        Kind::Xor => 15,
-        Kind::Nor => 15,
-        Kind::Nand => 15,
-        Kind::Sequent => 15,
+        Kind::Lower => Sign::Lower,
+        Kind::Upper => Sign::Upper,
+        Kind::Dollar => dollar_sign(w),
+        Kind::OpenParen => Sign::Opens,
+        Kind::CloseParen => Sign::Closes,
+        Kind::OpenBracket => Sign::Lists,
+        Kind::CloseBracket => Sign::Ends,
+        Kind::Comma => Sign::Comma,
+        Kind::Colon => Sign::Colon,
+        Kind::Dot => Sign::Dot,
+        Kind::ForAll => Sign::Every,
+        Kind::Exists => Sign::Exist,
+        Kind::And => Sign::Both,
+        Kind::Or => Sign::Either,
+        Kind::Implies => Sign::Then,
+        Kind::Quoted => Sign::Other,
+        Kind::Distinct => Sign::Other,
+        Kind::DoubleDollar => Sign::Other,
+        Kind::Integer => Sign::Other,
+        Kind::Rational => Sign::Other,
+        Kind::Real => Sign::Other,
+        Kind::OpenBrace => Sign::Other,
+        Kind::CloseBrace => Sign::Other,
+        Kind::Minus => Sign::Other,
+        Kind::Not => Sign::Other,
+        Kind::Equal => Sign::Other,
+        Kind::Unequal => Sign::Other,
+        Kind::ImpliedBy => Sign::Other,
+        Kind::Iff => Sign::Other,
+        Kind::Xor => Sign::Other,
+        Kind::Nor => Sign::Other,
+        Kind::Nand => Sign::Other,
+        Kind::Sequent => Sign::Other,
     }
 }
 
 // No sign.
 fn none_at(at: usize) -> Ahead
-    ensures { result ≡ record { code = 16; start = at; end = at } }
+    ensures { result ≡ record { sign = S.Nothing; start = at; end = at } }
 {
     Ahead {
-        code: 16,
+        sign: Sign::Nothing,
         start: at,
         end: at,
     }
@@ -98,17 +134,15 @@ pub fn sign_ahead(text: &[u8], at: usize) -> Ahead
     ensures { Aheads text.now at result }
 {
     match next_token(text, at) {
-        Lexed::End => none_at(at),
-        Lexed::Bad => none_at(at),
-        Lexed::Token { kind, start, end } => {
-            if end <= at {
-                return none_at(at);
+        Ok(None) => none_at(at),
+        Err(_) => none_at(at),
+        Ok(Some(token)) => {
+            let sign = sign_of(token.kind, cut(text, token.start, token.end));
+            Ahead {
+                sign,
+                start: token.start,
+                end: token.end,
             }
-            if text.len() < end {
-                return none_at(at);
-            }
-            let code = code_of(text, kind, start, end);
-            Ahead { code, start, end }
         }
     }
 }

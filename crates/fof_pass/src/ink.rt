@@ -8,6 +8,7 @@ ghost use Rattle.fof_pass.specs.Ink.{Inks};
 use pen::{put, put_byte, put_decimal, put_number};
 
 // The place behind what is written, the lists that are open there (no more than 64 are counted), and whether lists went deeper.
+// Kept: `deep` doesn't say whether the other values are there, so no Option stands for it; and the buffer is no field, since two pens of `Passed` outlive what is lent to each line.
 #[derive(Clone, Copy)]
 pub struct Pen {
     pub at: usize,
@@ -92,10 +93,8 @@ pub fn heads(buf: &mut [u8], pen: Pen, word: &[u8], n: usize) -> Pen
     ensures { Inks (many_headed word.now n) pen buf.old buf.new result }
 {
     let mut p = pen;
-    let mut i = 0;
-    while i < n {
+    for _ in 0..n {
         p = head(buf, p, word);
-        i += 1;
     }
     p
 }

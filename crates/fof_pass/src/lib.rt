@@ -7,8 +7,8 @@ mod expected;
 mod ink;
 mod names;
 
-pub use ahead::{Ahead, cut, sign_ahead};
-pub use dues::{Due, Sort, due_of, enter, entry, push};
-pub use expected::{Taken, take};
+pub use ahead::{Ahead, Sign, cut, sign_ahead};
+pub use dues::{Due, Sort, enter, entry, push};
+pub use expected::take;
 pub use ink::{Pen, end, head, heads, number, string};
-pub use names::{Number, number_of};
+pub use names::number_of;

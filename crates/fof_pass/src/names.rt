@@ -7,24 +7,16 @@ use crate::ahead::{cut, sign_ahead};
 use crate::dues::entry;
 use sexp::same;
 
-// The number of a variable, if it is bound.
-#[derive(Clone, Copy)]
-pub enum Number {
-    Free,
-    Bound(usize),
-}
-
-// How many variables are nearer than the nearest of this name.
-pub fn number_of(text: &[u8], names: &[usize], bound: usize, x: &[u8]) -> Number
+// The number of a variable, if it is bound: how many variables are nearer than the nearest of this name.
+// Kept: an offset is pushed behind the bound variables by `bind`, and a slice that ends there would have to be cut of the same memory at each call.
+pub fn number_of(text: &[u8], names: &[usize], bound: usize, x: &[u8]) -> Option<usize>
     ensures { (sc : Scope) → Scoped text.now names.now bound sc → number_is result ≡ number_of sc x.now }
 {
-    let mut i = 0;
-    while i < bound {
-        let a = sign_ahead(text, entry(names, bound - 1 - i));
+    for i in 0..bound {
+        let a = sign_ahead(text, entry(names, bound - 1 - i, 0));
         if same(cut(text, a.start, a.end), x) {
-            return Number::Bound(i);
+            return Some(i);
         }
-        i += 1;
     }
-    Number::Free
+    None
 }

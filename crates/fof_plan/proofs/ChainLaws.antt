@@ -16,6 +16,7 @@ use Rattle.fof_pass.specs.declared.ahead.Ahead.{Ahead}
 use Rattle.fof_plan.specs.declared.chain.First.{First}
 use Rattle.fof_plan.specs.declared.chain.First.TheVariants as F
 use Rattle.fof_plan.specs.declared.chain.Seen.{Seen}
+use Rattle.fof_pass.specs.Codes.{code_is}
 use Rattle.fof_pass.specs.Ahead.{signs_at, SeesAll, Aheads}
 use Rattle.fof_plan.specs.Chained.{chain_is, Chains, opening, shutting, connecting, ended, first_of, noted, Counted, plenty, OneMore, Passes}
 
@@ -297,7 +298,7 @@ code_below Sign.then = omega arith
 code_below Sign.other = omega arith
 
 module _ (t : List ℕ) (at i d : ℕ) (f : First) (n : ℕ) (p : Passing t at i d f n) (a : Ahead) (see : Aheads t i a) where
-  pub passing-over : 16 ≤ a.code → Chains t at (record { first = f; number = n })
+  pub passing-over : 16 ≤ (code_is a.sign) → Chains t at (record { first = f; number = n })
   passing-over l = record {
     is = λ ss e. let (rest, h, q) = p.is ss e in none_more f n ∙ sym (q ∙ go rest (see.seen rest h));
     few = p.few;
@@ -307,7 +308,7 @@ module _ (t : List ℕ) (at i d : ℕ) (f : First) (n : ℕ) (p : Passing t at i
       go [] z = refl
       go (s ∷ rest) z = absurd (omega (arith, z.number, code_below s))
 
-  pub passing-stops : {b : Bool} → b ≡ ended d a.code → b ≡ true → Chains t at (record { first = f; number = n })
+  pub passing-stops : {b : Bool} → b ≡ ended d (code_is a.sign) → b ≡ true → Chains t at (record { first = f; number = n })
   passing-stops g g' = record {
     is = λ ss e. let (rest, h, q) = p.is ss e in none_more f n ∙ sym (q ∙ go rest (see.seen rest h));
     few = p.few;
@@ -316,11 +317,11 @@ module _ (t : List ℕ) (at i d : ℕ) (f : First) (n : ℕ) (p : Passing t at i
       go : (rest : List Sign) → SeesAll t a rest → noted f n (chain d rest) ≡ noted f n part.Chain.lone
       go [] z = refl
       go (s ∷ rest) z =
-          let o = eqb-true d 0 (both_true (eqb d 0) (shutting a.code || eqb a.code comma_code) (sym g ∙ g')).0 in
+          let o = eqb-true d 0 (both_true (eqb d 0) (shutting (code_is a.sign) || eqb (code_is a.sign) comma_code) (sym g ∙ g')).0 in
           ap (λ (x : ℕ). noted f n (chain x (s ∷ rest))) o
-          ∙ ap (noted f n) (at-end rest s (sym (ap (ended 0) z.number) ∙ ap (λ (x : ℕ). ended x a.code) (sym o) ∙ sym g ∙ g'))
+          ∙ ap (noted f n) (at-end rest s (sym (ap (ended 0) z.number) ∙ ap (λ (x : ℕ). ended x (code_is a.sign)) (sym o) ∙ sym g ∙ g'))
 
-  pub passing-next : {b : Bool} {x : Seen} → length t < plenty → a.code < 16 → b ≡ ended d a.code → b ≡ false → Passes a.code d f n x → Passing t at a.end x.depth x.first x.number
+  pub passing-next : {b : Bool} {x : Seen} → length t < plenty → (code_is a.sign) < 16 → b ≡ ended d (code_is a.sign) → b ≡ false → Passes (code_is a.sign) d f n x → Passing t at a.end x.depth x.first x.number
   passing-next {b} {x} big l g g' w = record {
     is = λ ss e. let (rest, h, q) = p.is ss e in go ss rest q (see.seen rest h);
     counted = w.counted p.counted;

@@ -1,8 +1,9 @@
 // The connectives of the formula ahead: the first of them, and how many there are.
 ghost use Rattle.std.specs.Prelude.{◌≡◌};
-ghost use Rattle.fof_plan.specs.Chained.{opening, shutting, connecting, ended, first_of, OneMore, Passes, Chains};
+ghost use Rattle.fof_pass.specs.Codes.{code_is};
+ghost use Rattle.fof_plan.specs.Chained.{opening, shutting, connecting, ended, first_of, Passes, Chains};
 
-use fof_pass::sign_ahead;
+use fof_pass::{Sign, sign_ahead};
 
 #[derive(Clone, Copy)]
 pub enum First {
@@ -19,19 +20,15 @@ pub struct Chain {
 }
 
 // The first connective stays the first.
-fn first_of(f: First, code: usize) -> First
-    ensures { result ≡ first_of f code }
+fn first_of(f: First, sign: Sign) -> First
+    ensures { result ≡ first_of f (code_is sign) }
 {
     match f {
-        First::Lone => {
-            if code == 12 {
-                return First::Conj;
-            }
-            if code == 13 {
-                return First::Disj;
-            }
-            First::Implied
-        }
+        First::Lone => match sign {
+            Sign::Both => First::Conj,
+            Sign::Either => First::Disj,
+            _ => First::Implied,
+        },
         First::Conj => First::Conj,
         First::Disj => First::Disj,
         First::Implied => First::Implied,
@@ -39,45 +36,31 @@ fn first_of(f: First, code: usize) -> First
 }
 
 // What a sign does to the brackets that are open.
-fn opens(code: usize) -> bool
-    ensures { result ≡ opening code }
+// Kept: each of the three tells other signs, named in its clause, and a function with the signs as a parameter would be `matches!` again.
+fn opens(sign: Sign) -> bool
+    ensures { result ≡ opening (code_is sign) }
 {
-    code == 3 || code == 5
+    matches!(sign, Sign::Opens | Sign::Lists)
 }
 
-fn shuts(code: usize) -> bool
-    ensures { result ≡ shutting code }
+// Kept: as `opens`.
+fn shuts(sign: Sign) -> bool
+    ensures { result ≡ shutting (code_is sign) }
 {
-    code == 4 || code == 6
+    matches!(sign, Sign::Closes | Sign::Ends)
 }
 
-fn connects(code: usize) -> bool
-    ensures { result ≡ connecting code }
+fn connects(sign: Sign) -> bool
+    ensures { result ≡ connecting (code_is sign) }
 {
-    if code == 12 {
-        return true;
-    }
-    code == 13 || code == 14
+    matches!(sign, Sign::Both | Sign::Either | Sign::Then)
 }
 
 // The formula has its end before such a sign, where none of its own brackets is open.
-fn stops(code: usize, depth: usize) -> bool
-    ensures { result ≡ ended depth code }
+fn stops(sign: Sign, depth: usize) -> bool
+    ensures { result ≡ ended depth (code_is sign) }
 {
-    if depth == 0 {
-        return shuts(code) || code == 7;
-    }
-    false
-}
-
-// One more, as far as a text can have it.
-fn one_more(n: usize) -> usize
-    ensures { OneMore n result }
-{
-    if n < 0x8000_0000_0000_0000 {
-        return n + 1;
-    }
-    n
+    depth == 0 && (shuts(sign) || matches!(sign, Sign::Comma))
 }
 
 // What is known of the signs behind us: the brackets that are open, and the connectives outside brackets.
@@ -89,11 +72,11 @@ struct Seen {
 }
 
 // One sign more is behind us.
-fn passed(code: usize, depth: usize, first: First, number: usize) -> Seen
-    ensures { Passes code depth first number result }
+fn passed(sign: Sign, depth: usize, first: First, number: usize) -> Seen
+    ensures { Passes (code_is sign) depth first number result }
 {
-    if opens(code) {
-        let depth = one_more(depth);
+    if opens(sign) {
+        let depth = depth.saturating_add(1);
         return Seen {
             depth,
             first,
@@ -101,9 +84,9 @@ fn passed(code: usize, depth: usize, first: First, number: usize) -> Seen
         };
     }
     if depth == 0 {
-        if connects(code) {
-            let first = first_of(first, code);
-            let number = one_more(number);
+        if connects(sign) {
+            let first = first_of(first, sign);
+            let number = number.saturating_add(1);
             return Seen {
                 depth,
                 first,
@@ -116,7 +99,7 @@ fn passed(code: usize, depth: usize, first: First, number: usize) -> Seen
             number,
         };
     }
-    if shuts(code) {
+    if shuts(sign) {
         return Seen {
             depth: depth - 1,
             first,
@@ -138,15 +121,16 @@ pub fn chain_ahead(text: &[u8], at: usize) -> Chain
     let mut depth = 0;
     let mut first = First::Lone;
     let mut number = 0;
+    // Kept: each turn goes on behind the sign that it passed, which no range steps by.
     loop {
         let a = sign_ahead(text, i);
-        if a.code >= 16 {
+        if a.sign == Sign::Nothing {
             return Chain { first, number };
         }
-        if stops(a.code, depth) {
+        if stops(a.sign, depth) {
             return Chain { first, number };
         }
-        let s = passed(a.code, depth, first, number);
+        let s = passed(a.sign, depth, first, number);
         depth = s.depth;
         first = s.first;
         number = s.number;

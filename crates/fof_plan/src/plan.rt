@@ -4,16 +4,18 @@ ghost use Rattle.basics.specs.Text.{octets};
 ghost use Rattle.fof_part.specs.Due.{did, headed, many_headed, link_word, link_code, by_chain, quantified, topped, unit_at, variable_at, behind_at, arguments_at, terms_at, term_at, due_at};
 ghost use Rattle.fof_part.specs.Due as part;
 ghost use Rattle.fof_pass.specs.declared.dues.Due.TheVariants as D;
+ghost use Rattle.fof_pass.specs.Codes.{code_is};
 ghost use Rattle.fof_pass.specs.Dues.{sort_is, link_is, quantifier_is, meant};
 ghost use Rattle.fof_plan.specs.Chained.{chain_is};
 ghost use Rattle.fof_plan.specs.Planned.{beyond, refusal, doing, taking_to, FewBy, PlansAs, Plans};
 
 use crate::chain::{Chain, First, chain_ahead};
-use fof_pass::{Due, Sort};
+use fof_pass::{Due, Sign, Sort};
 
 // What is written.
 #[derive(Clone, Copy)]
 pub enum Writes {
+    // Kept: to write nothing is one of ten things that a plan does (`written`), and an Option would wrap the nine others.
     Nothing,
     // so many heads of `and` or of `or`
     Heads { conj: bool, number: usize },
@@ -33,6 +35,7 @@ pub enum Writes {
     Leaves,
 }
 
+// Kept: the definitions `planned` and `refusal` have the flag as a field, and `Acts` asks of a refused plan too that few are due.
 #[derive(Clone, Copy)]
 pub struct Plan {
     pub ok: bool,
@@ -90,10 +93,10 @@ fn leading(takes: bool, writes: Writes, first: Due, second: Due) -> Plan
 }
 
 // The sign is the one that is expected, or nothing can be done.
-fn taken(code: usize, wanted: usize, first: Due, second: Due, third: Due) -> Plan
-    ensures { (n : ℕ) → wanted < 16 → FewBy n first second third → PlansAs (taking_to wanted (meant first ++ (meant second ++ (meant third ++ [])))) code n result }
+fn taken(sign: Sign, wanted: Sign, first: Due, second: Due, third: Due) -> Plan
+    ensures { (n : ℕ) → code_is wanted < 16 → FewBy n first second third → PlansAs (taking_to (code_is wanted) (meant first ++ (meant second ++ (meant third ++ [])))) (code_is sign) n result }
 {
-    if code == wanted {
+    if sign == wanted {
         return Plan {
             ok: true,
             takes: true,
@@ -193,36 +196,29 @@ fn topped(sort: Sort) -> Plan
     }
 }
 
-fn unit(sort: Sort, code: usize) -> Plan
-    ensures { PlansAs (unit_at (sort_is sort)) code 0 result }
+fn unit(sort: Sort, sign: Sign) -> Plan
+    ensures { PlansAs (unit_at (sort_is sort)) (code_is sign) 0 result }
 {
-    if code == 0 {
-        return leading(true, Writes::Atom, Due::Arguments, Due::Shut);
+    match sign {
+        Sign::Lower => leading(true, Writes::Atom, Due::Arguments, Due::Shut),
+        Sign::Truth => topped(sort),
+        Sign::Opens => leading(true, Writes::Nothing, Due::Formula(sort), Due::Close),
+        Sign::Every => quantified(true, sort),
+        Sign::Exist => quantified(false, sort),
+        _ => refused(),
     }
-    if code == 2 {
-        return topped(sort);
-    }
-    if code == 3 {
-        return leading(true, Writes::Nothing, Due::Formula(sort), Due::Close);
-    }
-    if code == 10 {
-        return quantified(true, sort);
-    }
-    if code == 11 {
-        return quantified(false, sort);
-    }
-    refused()
 }
 
-// The number of the sign between the members of a chain.
-fn link_code(conj: bool) -> usize
-    ensures { result ≡ link_code (link_is conj) }
+// The sign between the members of a chain.
+// Kept: a sign here and a beginning in equal's `told`: they share an `if`, and neither a type nor a clause.
+fn link_sign(conj: bool) -> Sign
+    ensures { code_is result ≡ link_code (link_is conj) }
 {
-    if conj { 12 } else { 13 }
+    if conj { Sign::Both } else { Sign::Either }
 }
 
-fn more(conj: bool, sort: Sort, number: usize, code: usize) -> Plan
-    ensures { PlansAs (due_at (part.Due.more (link_is conj) (sort_is sort) number)) code number result }
+fn more(conj: bool, sort: Sort, number: usize, sign: Sign) -> Plan
+    ensures { PlansAs (due_at (part.Due.more (link_is conj) (sort_is sort) number)) (code_is sign) number result }
 {
     if number == 0 {
         return writing(false, Writes::Nothing);
@@ -232,91 +228,95 @@ fn more(conj: bool, sort: Sort, number: usize, code: usize) -> Plan
         sort,
         number: number - 1,
     };
-    taken(code, link_code(conj), Due::Unit(sort), Due::Shut, next)
+    taken(sign, link_sign(conj), Due::Unit(sort), Due::Shut, next)
 }
 
-fn variable(every: bool, sort: Sort, code: usize) -> Plan
-    ensures { PlansAs (variable_at (quantifier_is every) (sort_is sort)) code 0 result }
+fn variable(every: bool, sort: Sort, sign: Sign) -> Plan
+    ensures { PlansAs (variable_at (quantifier_is every) (sort_is sort)) (code_is sign) 0 result }
 {
-    if code == 1 {
-        return leading(
+    match sign {
+        Sign::Upper => leading(
             true,
             Writes::Binds(every),
             Due::Behind { every, sort },
             Due::Leave,
-        );
+        ),
+        _ => refused(),
     }
-    refused()
 }
 
-fn behind(every: bool, sort: Sort, code: usize) -> Plan
-    ensures { PlansAs (behind_at (quantifier_is every) (sort_is sort)) code 0 result }
+fn behind(every: bool, sort: Sort, sign: Sign) -> Plan
+    ensures { PlansAs (behind_at (quantifier_is every) (sort_is sort)) (code_is sign) 0 result }
 {
-    if code == 7 {
-        return leading(
+    match sign {
+        Sign::Comma => leading(
             true,
             Writes::Nothing,
             Due::Variable { every, sort },
             Due::Nothing,
-        );
+        ),
+        _ => taken(
+            sign,
+            Sign::Ends,
+            Due::Over(sort),
+            Due::Nothing,
+            Due::Nothing,
+        ),
     }
-    taken(code, 6, Due::Over(sort), Due::Nothing, Due::Nothing)
 }
 
-fn arguments(code: usize) -> Plan
-    ensures { PlansAs arguments_at code 0 result }
+fn arguments(sign: Sign) -> Plan
+    ensures { PlansAs arguments_at (code_is sign) 0 result }
 {
-    if code == 3 {
-        return leading(true, Writes::Nothing, Due::Term, Due::Terms);
+    match sign {
+        Sign::Opens => leading(true, Writes::Nothing, Due::Term, Due::Terms),
+        _ => writing(false, Writes::Nothing),
     }
-    writing(false, Writes::Nothing)
 }
 
-fn terms(code: usize) -> Plan
-    ensures { PlansAs terms_at code 0 result }
+fn terms(sign: Sign) -> Plan
+    ensures { PlansAs terms_at (code_is sign) 0 result }
 {
-    if code == 7 {
-        return leading(true, Writes::Nothing, Due::Term, Due::Terms);
+    match sign {
+        Sign::Comma => leading(true, Writes::Nothing, Due::Term, Due::Terms),
+        _ => taken(sign, Sign::Closes, Due::Nothing, Due::Nothing, Due::Nothing),
     }
-    taken(code, 4, Due::Nothing, Due::Nothing, Due::Nothing)
 }
 
-fn term(code: usize) -> Plan
-    ensures { PlansAs term_at code 0 result }
+fn term(sign: Sign) -> Plan
+    ensures { PlansAs term_at (code_is sign) 0 result }
 {
-    if code == 1 {
-        return writing(true, Writes::Variable);
+    match sign {
+        Sign::Upper => writing(true, Writes::Variable),
+        Sign::Lower => leading(true, Writes::Function, Due::Arguments, Due::Shut),
+        _ => refused(),
     }
-    if code == 0 {
-        return leading(true, Writes::Function, Due::Arguments, Due::Shut);
-    }
-    refused()
 }
 
-// What a due does at a place, where a sign of this number is ahead.
-pub fn plan_for(text: &[u8], at: usize, d: Due, code: usize) -> Plan
-    ensures { Plans text.now at d code result }
+// What a due does at a place, where this sign is ahead.
+pub fn plan_for(text: &[u8], at: usize, d: Due, sign: Sign) -> Plan
+    ensures { Plans text.now at d (code_is sign) result }
 {
     match d {
         Due::Nothing => refused(),
         Due::Formula(s) => by_chain(s, chain_ahead(text, at)),
-        Due::Unit(s) => unit(s, code),
-        Due::More { conj, sort, number } => more(conj, sort, number, code),
-        Due::Arrow => taken(code, 14, Due::Nothing, Due::Nothing, Due::Nothing),
-        Due::Close => taken(code, 4, Due::Nothing, Due::Nothing, Due::Nothing),
+        Due::Unit(s) => unit(s, sign),
+        Due::More { conj, sort, number } => more(conj, sort, number, sign),
+        Due::Arrow => taken(sign, Sign::Then, Due::Nothing, Due::Nothing, Due::Nothing),
+        Due::Close => taken(sign, Sign::Closes, Due::Nothing, Due::Nothing, Due::Nothing),
         Due::List { every, sort } => taken(
-            code,
-            5,
+            sign,
+            Sign::Lists,
             Due::Variable { every, sort },
             Due::Nothing,
             Due::Nothing,
         ),
-        Due::Variable { every, sort } => variable(every, sort, code),
-        Due::Behind { every, sort } => behind(every, sort, code),
-        Due::Over(s) => taken(code, 8, Due::Unit(s), Due::Nothing, Due::Nothing),
-        Due::Arguments => arguments(code),
-        Due::Term => term(code),
-        Due::Terms => terms(code),
+        Due::Variable { every, sort } => variable(every, sort, sign),
+        Due::Behind { every, sort } => behind(every, sort, sign),
+        Due::Over(s) => taken(sign, Sign::Colon, Due::Unit(s), Due::Nothing, Due::Nothing),
+        Due::Arguments => arguments(sign),
+        Due::Term => term(sign),
+        Due::Terms => terms(sign),
         Due::Shut => writing(false, Writes::End),
         Due::Leave => writing(false, Writes::Leaves),
     }

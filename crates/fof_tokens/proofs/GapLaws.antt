@@ -10,8 +10,8 @@ use lib.ListN.{length, drop, get_or, drop_of_length-le}
 use lib.Seq.{drop-cons}
 use borrow.Author.Tests.{eq-eqb, ne_eqb, eqb-true}
 use Rattle.basics.specs.Choice.{◌>>=◌, choose, both_true}
-use Rattle.fof_tokens.specs.declared.found.End.{End}
-use Rattle.fof_tokens.specs.declared.found.End.TheVariants as end
+use Rattle.std.specs.Prelude.{Some, None}
+use Rattle.std.specs.Prelude as std
 use Rattle.fof_tokens.specs.Rule.{Rule, never, just, ◌∣◌}
 use Rattle.fof_tokens.specs.Machine.{may_end, after, Sort, soonest}
 use Rattle.fof_tokens.specs.Begins.{comment_text, comment_star}
@@ -19,9 +19,9 @@ use Rattle.fof_tokens.specs.Found.{end_of, ending}
 use Rattle.fof_tokens.proofs.ScanLaws.{at-text, inside-text}
 
 -- where something ends, or nothing is found
-pub ending-bind : (e : End) (s : Sort) → ending e s none ≡ (end_of e >>= λ x. some (s, x))
-ending-bind (end.At e) s = refl
-ending-bind end.Nowhere s = refl
+pub ending-bind : (e : std.Option ℕ) (s : Sort) → ending e s none ≡ (end_of e >>= λ x. some (s, x))
+ending-bind (Some e) s = refl
+ending-bind None s = refl
 
 -- along a text
 

@@ -4,7 +4,7 @@ pub mod SortLaws
 pub mod PieceLaws
 pub mod CutsLaws
 pub mod NextLaws
-pub mod ByteLaws
+pub mod RunLaws
 pub mod ScanLaws
 pub mod SignLaws
 pub mod GapLaws

@@ -8,9 +8,8 @@ use lib.ListN.{length, take, drop, length-drop, drop_of_length-le}
 use lib.Seq.{drop-drop}
 use Rattle.basics.specs.Choice.{nope}
 use Rattle.fof_tokens.specs.declared.Kind.{Kind}
-use Rattle.fof_tokens.specs.declared.Lexed.{Lexed}
-use Rattle.fof_tokens.specs.declared.Lexed.TheVariants as lexed
-use Rattle.fof_tokens.specs.Token.{Token}
+use Rattle.fof_tokens.specs.Lexed.{Lexed}
+use Rattle.fof_tokens.specs.Lexed as lexed
 use Rattle.fof_tokens.specs.Cuts.{Piece, Longest}
 use Rattle.fof_tokens.specs.Lexes.{Lexes, ends, fails, drops, takes}
 use Rattle.fof_tokens.specs.Machine.{Sort, gap, token}
@@ -38,12 +37,12 @@ next-gap at (c ∷ w) (suc n) p h e =
     ∙ next-owed n (at + 1) w (omega arith)
     ∙ ap (λ (x : ℕ). next_from 0 x (drop n w)) {x = at + 1 + n} {y = at + suc n} (omega arith)
 
-pub next-token : (at : ℕ) (t : List ℕ) (k : Kind) (e : ℕ) → 0 < length t → piece_at at t ≡ some (token k, e) → next_from 0 at t ≡ lexed.Token k at e
+pub next-token : (at : ℕ) (t : List ℕ) (k : Kind) (e : ℕ) → 0 < length t → piece_at at t ≡ some (token k, e) → next_from 0 at t ≡ lexed.token k at e
 unfolding next_from
 next-token at [] k e h q = absurd (omega arith)
 next-token at (c ∷ w) k e h q = ap (λ (x : Option (Sort × ℕ)). next_piece x at (λ owed. next_from owed (at + 1) w)) q
 
-pub next-bad : (at : ℕ) (t : List ℕ) → 0 < length t → piece_at at t ≡ none → next_from 0 at t ≡ lexed.Bad
+pub next-bad : (at : ℕ) (t : List ℕ) → 0 < length t → piece_at at t ≡ none → next_from 0 at t ≡ lexed.bad
 unfolding next_from
 next-bad at [] h q = absurd (omega arith)
 next-bad at (c ∷ w) h q = ap (λ (x : Option (Sort × ℕ)). next_piece x at (λ owed. next_from owed (at + 1) w)) q
@@ -73,15 +72,15 @@ lexed-gap t at e h q = go (piece_at at (drop at t)) (piece-told at (drop at t)) 
 in_rest : (t : List ℕ) (at : ℕ) → at < length t → 0 < length (drop at t)
 in_rest t at h = let z = length-drop at t in omega arith
 
-pub lexed-token : (t : List ℕ) (at : ℕ) (k : Kind) (e : ℕ) → at < length t → some (token k, e) ≡ piece_at at (drop at t) → lexed_at t at ≡ lexed.Token k at e
+pub lexed-token : (t : List ℕ) (at : ℕ) (k : Kind) (e : ℕ) → at < length t → some (token k, e) ≡ piece_at at (drop at t) → lexed_at t at ≡ lexed.token k at e
 unfolding lexed_at
 lexed-token t at k e h q = next-token at (drop at t) k e (in_rest t at h) (sym q)
 
-pub lexed-bad : (t : List ℕ) (at : ℕ) → at < length t → none ≡ piece_at at (drop at t) → lexed_at t at ≡ lexed.Bad
+pub lexed-bad : (t : List ℕ) (at : ℕ) → at < length t → none ≡ piece_at at (drop at t) → lexed_at t at ≡ lexed.bad
 unfolding lexed_at
 lexed-bad t at h q = next-bad at (drop at t) (in_rest t at h) (sym q)
 
-pub lexed-end : (t : List ℕ) (at : ℕ) → length t ≤ at → lexed_at t at ≡ lexed.End
+pub lexed-end : (t : List ℕ) (at : ℕ) → length t ≤ at → lexed_at t at ≡ lexed.ended
 unfolding lexed_at next_from
 lexed-end t at h = ap (λ (x : List ℕ). next_from 0 at x) (drop_of_length-le t {i = at} h)
 
@@ -101,7 +100,7 @@ next-only (takes {at = at} {n = n} {t = t} {k = k} l i) =
 next-piece : (at n e : ℕ) (t : List ℕ) (s : Sort) (f : ℕ → Lexed) → Longest t n → Sorted s (take n t) → e ≡ at + n →
     Lexes (at + n) (drop n t) (f (e - (at + 1))) → Lexes at t (next_sort s e at f)
 next-piece at n e t gap f l h q r = drops l h r
-next-piece at n e t (token k) f l h q r = subst (λ (x : ℕ). Lexes at t (lexed.Token k at x)) (sym q) (takes l h)
+next-piece at n e t (token k) f l h q r = subst (λ (x : ℕ). Lexes at t (lexed.token k at x)) (sym q) (takes l h)
 
 pub next-lexes : (t : List ℕ) (owed at : ℕ) → owed ≤ length t → Lexes (at + owed) (drop owed t) (next_from owed at t)
 unfolding next_from

@@ -10,7 +10,7 @@ use borrow.Author.Tests.{eqb-true}
 use Rattle.basics.specs.Choice.{◌>>=◌, or_else}
 use Rattle.fof_tokens.specs.declared.Kind.{Kind}
 use Rattle.fof_tokens.specs.declared.Kind.TheVariants as kind
-use Rattle.fof_tokens.specs.declared.found.End.{End}
+use Rattle.std.specs.Prelude as std
 use Rattle.fof_tokens.specs.declared.first.First.{First}
 use Rattle.fof_tokens.specs.declared.first.First.TheVariants as first
 use Rattle.fof_tokens.specs.Bytes.{is_space, is_alnum, is_sign, is_exponent, is_plain, in_line}
@@ -47,7 +47,7 @@ unfolding rest_of begun
 rest-single k at t = sym (full (token k) at none (drop at t))
 
 -- a block comment, if it ends
-pub rest-slash : (e : End) (at : ℕ) (t : List ℕ) → end_of e ≡ soonest comment_star at t → ending e gap none ≡ rest_of first.Slash at t
+pub rest-slash : (e : std.Option ℕ) (at : ℕ) (t : List ℕ) → end_of e ≡ soonest comment_star at t → ending e gap none ≡ rest_of first.Slash at t
 unfolding rest_of
 rest-slash e at t q = ending-bind e gap ∙ ap (λ (o : Option ℕ). o >>= λ x. some (gap, x)) q
 

@@ -2,6 +2,7 @@ pub mod Bytes
 pub mod Rule
 pub mod Token
 pub mod Cuts
+pub mod Lexed
 pub mod Lexes
 pub mod Machine
 pub mod Next

@@ -1,13 +1,13 @@
 -- The tokens of a text, computed: the piece that stands at an offset, the next token from an offset on, and all tokens. That these are those of Lexes and Cuts is proved in NextLaws and CutsLaws.
-use Rattle.std.specs.Prelude.{ℕ, zero, suc, ◌+◌, ◌-◌, List, [], ◌∷◌, map, take, drop}
+use Rattle.std.specs.Prelude.{ℕ, zero, suc, ◌+◌, ◌-◌, List, [], ◌∷◌, map, take, drop, Some, None, Ok, Err}
 use Rattle.std.proofs.Math.Option.{Option, none, some}
 use Rattle.basics.specs.Choice.{◌>>=◌, or_else}
 use Rattle.fof_tokens.specs.declared.Kind.{Kind}
 use Rattle.fof_tokens.specs.declared.Kind.TheVariants.{Lower, Upper, Quoted, Distinct, Dollar, DoubleDollar, Integer, Rational, Real}
 use Rattle.fof_tokens.specs.declared.Kind.TheVariants.{OpenParen, CloseParen, OpenBracket, CloseBracket, OpenBrace, CloseBrace, Comma, Dot, Colon, Minus}
 use Rattle.fof_tokens.specs.declared.Kind.TheVariants.{ForAll, Exists, Not, And, Or, Equal, Unequal, Implies, ImpliedBy, Iff, Xor, Nor, Nand, Sequent}
-use Rattle.fof_tokens.specs.declared.Lexed.{Lexed}
-use Rattle.fof_tokens.specs.declared.Lexed.TheVariants as lexed
+use Rattle.fof_tokens.specs.Lexed.{Lexed}
+use Rattle.fof_tokens.specs.Lexed as lexed
 use Rattle.fof_tokens.specs.Token.{rule, Token}
 use Rattle.fof_tokens.specs.Cuts.{space, line_comment, block}
 use Rattle.fof_tokens.specs.Machine.{Sort, gap, token, Row, scan, soonest}
@@ -32,15 +32,15 @@ piece_at at t = or_else (block_at at t) (scan table at none t)
 -- what is next, where such a piece ends at e; `rest` has what is next after so many bytes of the tail
 abbrev pub next_sort : Sort → ℕ → ℕ → (ℕ → Lexed) → Lexed
 next_sort gap e at rest = rest (e - (at + 1))
-next_sort (token k) e at rest = lexed.Token k at e
+next_sort (token k) e at rest = lexed.token k at e
 
 abbrev pub next_piece : Option (Sort × ℕ) → ℕ → (ℕ → Lexed) → Lexed
-next_piece none at rest = lexed.Bad
+next_piece none at rest = lexed.bad
 next_piece (some p) at rest = next_sort p.0 p.1 at rest
 
 -- what is next in the text, whose first byte has this offset; `owed` bytes of a piece are passed first
 unfoldable pub next_from : ℕ → ℕ → List ℕ → Lexed
-next_from owed at [] = lexed.End
+next_from owed at [] = lexed.ended
 next_from (suc owed) at (c ∷ w) = next_from owed (at + 1) w
 next_from zero at (c ∷ w) = next_piece (piece_at at (c ∷ w)) at (λ owed. next_from owed (at + 1) w)
 
@@ -74,7 +74,7 @@ tokens t = tokens_at t 0
 
 -- the tokens of a text, where this is next
 abbrev pub tokens_by : List ℕ → Lexed → Option (List Token)
-tokens_by t lexed.End = some []
-tokens_by t lexed.Bad = none
-tokens_by t (lexed.Token k start end) =
-    tokens_at t end >>= λ ts. some (record { kind = k; at = start; bytes = take (end - start) (drop start t) } ∷ ts)
+tokens_by t (Ok None) = some []
+tokens_by t (Err e) = none
+tokens_by t (Ok (Some k)) =
+    tokens_at t k.end >>= λ ts. some (record { kind = k.kind; at = k.start; bytes = take (k.end - k.start) (drop k.start t) } ∷ ts)

@@ -2,7 +2,7 @@
 ghost use Rattle.fof_tokens.specs.Begins.{Begins, SignOf};
 
 use crate::Kind;
-use crate::bytes::{is_capital, is_nonzero, is_small, is_space};
+use crate::bytes::{is_nonzero, is_space};
 
 #[derive(Clone, Copy)]
 pub(crate) enum First {
@@ -31,6 +31,7 @@ pub(crate) enum First {
     Tilde,
     // <
     Less,
+    // Kept: a byte that begins nothing is one of sixteen answers, and an Option would wrap the others in each arm.
     Nothing,
 }
 
@@ -75,10 +76,10 @@ pub(crate) fn begin(c: u8) -> First
     if is_space(c) {
         return First::Space;
     }
-    if is_small(c) {
+    if c.is_ascii_lowercase() {
         return First::Letter(Kind::Lower);
     }
-    if is_capital(c) {
+    if c.is_ascii_uppercase() {
         return First::Letter(Kind::Upper);
     }
     if is_nonzero(c) {

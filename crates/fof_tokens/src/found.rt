@@ -6,37 +6,26 @@ ghost use Rattle.fof_tokens.specs.Found.{found_of, ending};
 
 use crate::Kind;
 
-// Where something ends, if it stands there.
-#[derive(Clone, Copy)]
-pub(crate) enum End {
-    At(usize),
-    Nowhere,
-}
-
-// The longest piece, and where it ends.
+// The longest piece, and where it ends: a space or a comment, which is dropped, or a token.
+// Kept: both variants hold where a piece ends, and neither is an absence or a failure.
 #[derive(Clone, Copy)]
 pub(crate) enum Found {
-    Nothing,
     Gap { end: usize },
     Token { kind: Kind, end: usize },
 }
 
 // A token that ends there, if it does.
-pub(crate) fn token_to(kind: Kind, e: End) -> Found
+pub(crate) fn token_to(kind: Kind, e: Option<usize>) -> Option<Found>
     ensures { found_of result ≡ ending e (token kind) none }
 {
-    match e {
-        End::Nowhere => Found::Nothing,
-        End::At(end) => Found::Token { kind, end },
-    }
+    let end = e?;
+    Some(Found::Token { kind, end })
 }
 
 // A comment that ends there, if it does.
-pub(crate) fn gap_to(e: End) -> Found
+pub(crate) fn gap_to(e: Option<usize>) -> Option<Found>
     ensures { found_of result ≡ ending e gap none }
 {
-    match e {
-        End::Nowhere => Found::Nothing,
-        End::At(end) => Found::Gap { end },
-    }
+    let end = e?;
+    Some(Found::Gap { end })
 }

@@ -4,7 +4,6 @@ ghost use Rattle.fof_tokens.specs.Machine.{soonest};
 ghost use Rattle.fof_tokens.specs.Begins.{comment_text, comment_star};
 ghost use Rattle.fof_tokens.specs.Found.{end_of};
 
-use crate::found::End;
 use sexp::byte;
 
 // Whether a block comment closes at an offset.
@@ -18,25 +17,23 @@ fn shuts(text: &[u8], at: usize) -> bool
 }
 
 // Where the comment ends whose text starts at `at`.
-fn text_end(text: &[u8], at: usize) -> End
+fn text_end(text: &[u8], at: usize) -> Option<usize>
     ensures { end_of result ≡ soonest comment_text at (drop at text.now) }
 {
-    let mut i = at;
-    while i < text.len() {
+    for i in at..text.len() {
         if shuts(text, i) {
-            return End::At(i + 2);
+            return Some(i + 2);
         }
-        i += 1;
     }
-    End::Nowhere
+    None
 }
 
 // Where the comment ends whose slash is before `at`.
-pub(crate) fn block_end(text: &[u8], at: usize) -> End
+pub(crate) fn block_end(text: &[u8], at: usize) -> Option<usize>
     ensures { end_of result ≡ soonest comment_star at (drop at text.now) }
 {
     if byte(text, at) != 42 {
-        return End::Nowhere;
+        return None;
     }
     text_end(text, at + 1)
 }

@@ -87,17 +87,14 @@ pub enum Kind {
     Sequent,
 }
 
-// What comes next in a text.
+// A token, from the byte at `start` to the one before `end`.
 #[derive(Clone, Copy)]
-pub enum Lexed {
-    // no more tokens
-    End,
-    // something that is no token, no space and no comment
-    Bad,
-    // a token, from the byte at `start` to the one before `end`
-    Token {
-        kind: Kind,
-        start: usize,
-        end: usize,
-    },
+pub struct Token {
+    pub kind: Kind,
+    pub start: usize,
+    pub end: usize,
 }
+
+// What comes next is no token, no space and no comment.
+#[derive(Clone, Copy)]
+pub struct NoToken;

@@ -2,31 +2,32 @@
 ghost use Rattle.std.specs.Prelude.{◌≡◌};
 ghost use Rattle.fof_tokens.specs.Next.{lexed_at};
 
-use crate::Lexed;
 use crate::found::Found;
 use crate::pieces::piece_at;
+use crate::{NoToken, Token};
 
 // What is next from `at` on: spaces and comments are passed; behind the end of the text nothing is.
-pub fn next_token(text: &[u8], at: usize) -> Lexed
+pub fn next_token(text: &[u8], at: usize) -> Result<Option<Token>, NoToken>
     ensures { result ≡ lexed_at text.now at }
 {
     let mut i = at;
+    // Kept: each turn goes on behind the piece that it passed, which no range or adapter steps by.
     while i < text.len() {
         match piece_at(text, i) {
-            Found::Nothing => {
-                return Lexed::Bad;
+            None => {
+                return Err(NoToken);
             }
-            Found::Token { kind, end } => {
-                return Lexed::Token {
+            Some(Found::Token { kind, end }) => {
+                return Ok(Some(Token {
                     kind,
                     start: i,
                     end,
-                };
+                }));
             }
-            Found::Gap { end } => {
+            Some(Found::Gap { end }) => {
                 i = end;
             }
         }
     }
-    Lexed::End
+    Ok(None)
 }

@@ -14,20 +14,20 @@ use crate::signs::{less, one_more, tilde};
 use crate::words::{dollar, quoted, quoted_end};
 
 // The piece whose first byte, before `at`, is such.
-fn rest(text: &[u8], at: usize, f: First) -> Found
+fn rest(text: &[u8], at: usize, f: First) -> Option<Found>
     ensures { found_of result ≡ rest_of f at (drop at text.now) }
 {
     match f {
-        First::Nothing => Found::Nothing,
-        First::Space => Found::Gap { end: at },
-        First::Percent => Found::Gap {
+        First::Nothing => None,
+        First::Space => Some(Found::Gap { end: at }),
+        First::Percent => Some(Found::Gap {
             end: run_end(text, at, Class::Line),
-        },
+        }),
         First::Slash => gap_to(block_end(text, at)),
-        First::Letter(kind) => Found::Token {
+        First::Letter(kind) => Some(Found::Token {
             kind,
             end: run_end(text, at, Class::Alnum),
-        },
+        }),
         First::Quote => quoted(text, at),
         First::DoubleQuote => token_to(Kind::Distinct, quoted_end(text, at, 34)),
         First::Dollar => dollar(text, at),
@@ -35,18 +35,18 @@ fn rest(text: &[u8], at: usize, f: First) -> Found
         First::Nonzero => number_tail(text, run_end(text, at, Class::Digit)),
         First::Plus => plus(text, at),
         First::Minus => minus(text, at),
-        First::Single(kind) => Found::Token { kind, end: at },
+        First::Single(kind) => Some(Found::Token { kind, end: at }),
         First::Double { short, more, long } => one_more(text, at, short, more, long),
         First::Tilde => tilde(text, at),
         First::Less => less(text, at),
     }
 }
 
-pub(crate) fn piece_at(text: &[u8], at: usize) -> Found
+pub(crate) fn piece_at(text: &[u8], at: usize) -> Option<Found>
     ensures { found_of result ≡ piece_at at (drop at text.now) }
 {
     if text.len() <= at {
-        return Found::Nothing;
+        return None;
     }
     rest(text, at + 1, begin(text[at]))
 }

@@ -10,52 +10,53 @@ use crate::found::Found;
 use sexp::byte;
 
 // The sign that ends at `at`, or the one with the byte `more` besides.
-pub(crate) fn one_more(text: &[u8], at: usize, short: Kind, more: u8, long: Kind) -> Found
+pub(crate) fn one_more(text: &[u8], at: usize, short: Kind, more: u8, long: Kind) -> Option<Found>
     ensures { found_of result ≡ scan (one_more short more long) at none (drop at text.now) }
 {
     if text.len() <= at {
-        return Found::Token {
+        return Some(Found::Token {
             kind: short,
             end: at,
-        };
+        });
     }
     if text[at] != more {
-        return Found::Token {
+        return Some(Found::Token {
             kind: short,
             end: at,
-        };
+        });
     }
-    Found::Token {
+    Some(Found::Token {
         kind: long,
         end: at + 1,
-    }
+    })
 }
 
 // ~ before `at`, or ~| or ~&
-pub(crate) fn tilde(text: &[u8], at: usize) -> Found
+// Kept: two bytes can follow here and one in `one_more`, and `after_tilde` is a definition of its own.
+pub(crate) fn tilde(text: &[u8], at: usize) -> Option<Found>
     ensures { found_of result ≡ scan after_tilde at none (drop at text.now) }
 {
     let c = byte(text, at);
     if c == 124 {
-        return Found::Token {
+        return Some(Found::Token {
             kind: Kind::Nor,
             end: at + 1,
-        };
+        });
     }
     if c == 38 {
-        return Found::Token {
+        return Some(Found::Token {
             kind: Kind::Nand,
             end: at + 1,
-        };
+        });
     }
-    Found::Token {
+    Some(Found::Token {
         kind: Kind::Not,
         end: at,
-    }
+    })
 }
 
 // <= or <=> or <~>, whose < is before `at`
-pub(crate) fn less(text: &[u8], at: usize) -> Found
+pub(crate) fn less(text: &[u8], at: usize) -> Option<Found>
     ensures { found_of result ≡ scan after_less at none (drop at text.now) }
 {
     let c = byte(text, at);
@@ -63,13 +64,13 @@ pub(crate) fn less(text: &[u8], at: usize) -> Found
         return one_more(text, at + 1, Kind::ImpliedBy, 62, Kind::Iff);
     }
     if c != 126 {
-        return Found::Nothing;
+        return None;
     }
     if byte(text, at + 1) != 62 {
-        return Found::Nothing;
+        return None;
     }
-    Found::Token {
+    Some(Found::Token {
         kind: Kind::Xor,
         end: at + 2,
-    }
+    })
 }

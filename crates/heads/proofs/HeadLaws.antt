@@ -9,8 +9,7 @@ use lib.Seq.{drop-drop}
 use Rattle.basics.specs.Text.{octets}
 use Rattle.harrop.specs.Formula.{Atom, Goal, Clause}
 use Rattle.harrop.specs.Place.{Plain}
-use Rattle.sexp.specs.declared.skip.After.{After}
-use Rattle.sexp.specs.declared.skip.After.TheVariants as A
+use Rattle.std.specs.Prelude.{Option, Some, None}
 use Rattle.sexp.specs.Decimal.{decimal_onto}
 use Rattle.sexp.specs.Sexp.{Sexp, Sexps, Stands, StandsAll, spell, nesting}
 use Rattle.sexp.specs.Past.{PastAt}
@@ -21,9 +20,8 @@ use Rattle.packet.specs.Table.{word_of, due_after, rows, rank}
 use Rattle.reader.specs.WordAt.{WordAt}
 use Rattle.reader.proofs.WordLaws.{word-is}
 use Rattle.packet.specs.Written.{word, goal_sexp, clause_sexp}
+use Rattle.packet.specs.declared.Due.{Due}
 use Rattle.packet.specs.declared.Kind.TheVariants as K
-use Rattle.rows.specs.declared.table.Row.{Row}
-use Rattle.rows.specs.declared.table.Row.TheVariants as R
 use Rattle.rows.specs.Rows.{row_of}
 use Rattle.heads.specs.Heads.{goal_word, clause_word, GoalShape, ClauseShape}
 
@@ -79,9 +77,9 @@ pub clause-is : (d : Clause Plain) {w : Word} → clause_word d ≡ w → Clause
 clause-is d e = subst (λ (w : Word). ClauseShape w d) e (clause-shape d)
 
 -- the table has a row for the word of every goal and every clause
-abbrev is_row : Row → Bool
-is_row (R.Then d) = true
-is_row R.Nothing = false
+abbrev is_row : Option Due → Bool
+is_row (Some d) = true
+is_row None = false
 
 goal-row : (g : Goal Plain) → is_row (row_of (due_after K.Goal (goal_word g))) ≡ true
 unfolding goal_word due_after rows rank
@@ -93,7 +91,7 @@ goal-row (Goal.some q g) = refl
 goal-row (Goal.all q g) = refl
 goal-row (Goal.imp d g) = refl
 
-pub goal-has-row : (g : Goal Plain) (k : Word) → k ≡ goal_word g → R.Nothing ≡ row_of (due_after K.Goal k) → ⊥
+pub goal-has-row : (g : Goal Plain) (k : Word) → k ≡ goal_word g → None ≡ row_of (due_after K.Goal k) → ⊥
 goal-has-row g k e n = false≢true (ap is_row n ∙ (ap (λ (w : Word). is_row (row_of (due_after K.Goal w))) e ∙ goal-row g))
 
 clause-row : (d : Clause Plain) → is_row (row_of (due_after K.Clause (clause_word d))) ≡ true
@@ -103,7 +101,7 @@ clause-row (Clause.imp_d g a) = refl
 clause-row (Clause.all_d q d) = refl
 clause-row (Clause.and_d c d) = refl
 
-pub clause-has-row : (d : Clause Plain) (k : Word) → k ≡ clause_word d → R.Nothing ≡ row_of (due_after K.Clause k) → ⊥
+pub clause-has-row : (d : Clause Plain) (k : Word) → k ≡ clause_word d → None ≡ row_of (due_after K.Clause k) → ⊥
 clause-has-row d k e n = false≢true (ap is_row n ∙ (ap (λ (w : Word). is_row (row_of (due_after K.Clause w))) e ∙ clause-row d))
 
 -- how many bytes come before the members of a list with a word: its parenthesis and the word
@@ -126,11 +124,11 @@ module _ {s : List ℕ} {at k : ℕ} (v : List ℕ) (e : head v ≡ k) where
   second-part {x} {y} h = subst (λ (i : ℕ). Stands s i y) (omega arith) (first-stands (others-stand (after-word h)))
 
   -- the second stands where the first is found to end
-  pub second-found : {x y : Sexp} {xs : Sexps} {q : After} {n : ℕ} → Stands s at (word v (Sexps.cons x (Sexps.cons y xs))) → PastAt (drop at s) k 64 q → q ≡ A.Next n → Stands s (at + n) y
+  pub second-found : {x y : Sexp} {xs : Sexps} {q : Option ℕ} {n : ℕ} → Stands s at (word v (Sexps.cons x (Sexps.cons y xs))) → PastAt (drop at s) k 64 q → q ≡ Some n → Stands s (at + n) y
   second-found {x} {y} {q = q} {n = n} h p f =
-      let z = ends-here (stands-in-part s at k (first_part h)) (subst (λ (r : After). PastAt (drop at s) k 64 r) f p) in
+      let z = ends-here (stands-in-part s at k (first_part h)) (subst (λ (r : Option ℕ). PastAt (drop at s) k 64 r) f p) in
       subst (λ (i : ℕ). Stands s (at + i) y) (sym z) (second-part h)
 
   -- and the first is found
-  pub first_found : {x : Sexp} {xs : Sexps} {q : After} → Stands s at (word v (Sexps.cons x xs)) → nesting x ≤ 64 → PastAt (drop at s) k 64 q → q ≡ A.Nothing → ⊥
-  first_found {x} {q = q} h l p f = subst (λ (r : After). PastAt (drop at s) k 64 r) f p x (stands-in-part s at k (first_part h)) l
+  pub first_found : {x : Sexp} {xs : Sexps} {q : Option ℕ} → Stands s at (word v (Sexps.cons x xs)) → nesting x ≤ 64 → PastAt (drop at s) k 64 q → q ≡ None → ⊥
+  first_found {x} {q = q} h l p f = subst (λ (r : Option ℕ). PastAt (drop at s) k 64 r) f p x (stands-in-part s at k (first_part h)) l

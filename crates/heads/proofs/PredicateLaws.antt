@@ -13,8 +13,7 @@ use Rattle.harrop.specs.Formula.{Name, Terms, Atom, Goal, Clause}
 use Rattle.harrop.specs.Bindings.{same_name}
 use Rattle.harrop.specs.Place.{Plain}
 use Rattle.harrop.proofs.SameLaws.{equal-names-same}
-use Rattle.sexp.specs.declared.skip.After.{After}
-use Rattle.sexp.specs.declared.skip.After.TheVariants as A
+use Rattle.std.specs.Prelude.{Option, Some, None}
 use Rattle.sexp.specs.Sexp.{Sexp, Sexps, str, nil, cons, spell, Stands, StandsAll, nesting, nestings}
 use Rattle.sexp.specs.Past.{PastAt}
 use Rattle.sexp.specs.WordsAt.{Shared}
@@ -24,11 +23,11 @@ use Rattle.packet.specs.declared.Word.{Word}
 use Rattle.packet.specs.declared.Word.TheVariants as W
 use Rattle.reader.specs.WordAt.{WordAt}
 use Rattle.packet.specs.declared.Kind.TheVariants as K
-use Rattle.rows.specs.declared.table.Row.TheVariants as R
 use Rattle.rows.specs.Rows.{row_of}
 use Rattle.packet.specs.Table.{due_after}
 use Rattle.packet.specs.Written.{term_sexps, atom_sexp, clause_sexp}
-use Rattle.room.specs.Where.{Files, plus, further}
+use Rattle.room.specs.Where.{plus, further}
+use Rattle.room.specs.Files.{Files}
 use Rattle.room.specs.declared.Spot.{Spot}
 use Rattle.room.proofs.NestLaws.{clause-nests}
 use Rattle.equal.proofs.TermLaws.{atom-text, atom-rest, text-once, names-differ}
@@ -110,13 +109,13 @@ module _ (s t : List ℕ) (i j p q : ℕ) (L : LeftAt s t i j p q) where
 
   module _ {c d : Bool} (e : c ≡ eqb (get_or s p 0) 41) (h : c ≡ false) (f : d ≡ eqb (get_or t q 0) 41) (g : d ≡ false) where
     -- it is gone past
-    pub left-lost : {a : After} → a ≡ A.Nothing → PastAt s p 64 a → SameNumber s t i j false
+    pub left-lost : {a : Option ℕ} → a ≡ None → PastAt s p 64 a → SameNumber s t i j false
     left-lost z a xs ys X n Y m = let F = firsts e h f g xs ys (L xs ys X n Y m) in absurd (past-nothing z a F.x (first-stands F.here) (omega (arith, F.flat)))
 
-    pub left-lost-too : {a : After} → a ≡ A.Nothing → PastAt t q 64 a → SameNumber s t i j false
+    pub left-lost-too : {a : Option ℕ} → a ≡ None → PastAt t q 64 a → SameNumber s t i j false
     left-lost-too z a xs ys X n Y m = let F = firsts e h f g xs ys (L xs ys X n Y m) in absurd (past-nothing z a F.y (first-stands F.there) (omega (arith, F.flat')))
 
-    pub left-next : {a b : After} {u v : ℕ} → a ≡ A.Next u → PastAt s p 64 a → b ≡ A.Next v → PastAt t q 64 b → LeftAt s t i j u v
+    pub left-next : {a b : Option ℕ} {u v : ℕ} → a ≡ Some u → PastAt s p 64 a → b ≡ Some v → PastAt t q 64 b → LeftAt s t i j u v
     left-next {u = u} {v = v} k a l b xs ys X n Y m =
         let F = firsts e h f g xs ys (L xs ys X n Y m) in
         let E = past_next k a in
@@ -147,14 +146,14 @@ module _ (s t : List ℕ) where
       ap (λ (b : Bool). b && eqb (arguments ts) (arguments us)) (sym (names-differ n m d))
 
   -- a name stands there, so it is gone past
-  pub name-lost : {q : After} → PastAt s 7 0 q → q ≡ A.Nothing → SamePredicate s t false
+  pub name-lost : {q : Option ℕ} → PastAt s 7 0 q → q ≡ None → SamePredicate s t false
   name-lost p e (Atom.atom n ts) (Atom.atom m us) X l Y k = absurd (past-nothing e p (str n) (atom-text n ts X) (omega arith))
 
-  pub name-lost-too : {q : After} → PastAt t 7 0 q → q ≡ A.Nothing → SamePredicate s t false
+  pub name-lost-too : {q : Option ℕ} → PastAt t 7 0 q → q ≡ None → SamePredicate s t false
   name-lost-too p e (Atom.atom n ts) (Atom.atom m us) X l Y k = absurd (past-nothing e p (str m) (atom-text m us Y) (omega arith))
 
   -- the same name: the arguments decide
-  pub named-alike : {r b : Bool} {q q' : After} {u v : ℕ} → Tells r (Shared s 7 t 7) → r ≡ true → PastAt s 7 0 q → q ≡ A.Next u → PastAt t 7 0 q' → q' ≡ A.Next v → SameNumber s t u v b → SamePredicate s t b
+  pub named-alike : {r b : Bool} {q q' : Option ℕ} {u v : ℕ} → Tells r (Shared s 7 t 7) → r ≡ true → PastAt s 7 0 q → q ≡ Some u → PastAt t 7 0 q' → q' ≡ Some v → SameNumber s t u v b → SamePredicate s t b
   unfolding same_predicate
   named-alike {r} {b} {u = u} {v = v} h e p k p' k' N (Atom.atom n ts) (Atom.atom m us) X l Y o =
       let yes = told-yes e h in
@@ -194,7 +193,7 @@ module _ {f : Files} {x y : Spot} where
   pub by_word : {r : Bool} (nest : ℕ) (word k : Word) → (nest ≡ 0 → ⊥) → WordAt (drop x.at (bytes_at f x)) 1 k → k ≡ word → HasHeadAs word f x y (nest - 1) r → HasHead f x y nest r
   by_word nest word k z q e p d a l c t = p d a (sym (clause-says (bytes_at f x) x.at d k c.stands q) ∙ e) (omega arith) c t
 
-  pub by-other : (nest : ℕ) (k : Word) → WordAt (drop x.at (bytes_at f x)) 1 k → R.Nothing ≡ row_of (due_after K.Clause k) → HasHead f x y nest false
+  pub by-other : (nest : ℕ) (k : Word) → WordAt (drop x.at (bytes_at f x)) 1 k → None ≡ row_of (due_after K.Clause k) → HasHead f x y nest false
   by-other nest k q n d a l c t = absurd (clause-has-row d k (clause-says (bytes_at f x) x.at d k c.stands q) n)
 
   module _ (nest : ℕ) where
@@ -204,12 +203,12 @@ module _ {f : Files} {x y : Spot} where
         let (b, n) = clause-is d h in
         subst (λ (z : Clause Plain). Claim f x y (suc nest) r z) (sym n) (λ a l c t. p b a (record { stands = c.stands; shallow = c.shallow }) t) a
 
-    pub imp-lost : {q : After} → PastAt (drop x.at (bytes_at f x)) 6 64 q → q ≡ A.Nothing → HasHeadAs W.Imp f x y nest false
+    pub imp-lost : {q : Option ℕ} → PastAt (drop x.at (bytes_at f x)) 6 64 q → q ≡ None → HasHeadAs W.Imp f x y nest false
     imp-lost p e d a h =
         let (g, b, n) = clause-is d h in
         subst (λ (z : Clause Plain). Claim f x y (suc nest) false z) (sym n) (λ a l c t. absurd (first_found (octets "imp") heads.1.1.1.1 c.stands (omega (arith, c.shallow)) p e)) a
 
-    pub imp_head : {q : After} {n : ℕ} {z : Spot} {r : Bool} → PastAt (drop x.at (bytes_at f x)) 6 64 q → q ≡ A.Next n → z ≡ further x n → SameThere f z y r → HasHeadAs W.Imp f x y nest r
+    pub imp_head : {q : Option ℕ} {n : ℕ} {z : Spot} {r : Bool} → PastAt (drop x.at (bytes_at f x)) 6 64 q → q ≡ Some n → z ≡ further x n → SameThere f z y r → HasHeadAs W.Imp f x y nest r
     unfolding has_head
     imp_head {n = n} {r = r} p e i k d a h =
         let (g, b, u) = clause-is d h in
@@ -227,7 +226,7 @@ module _ {f : Files} {x y : Spot} where
         (λ a l c t. subst (λ (s : Spot). HasHead f s y nest r) i k b a (omega arith) (clause-part 6 b c (first_part (octets "all") heads.1.1.1.0 c.stands) (omega arith)) t)
         a
 
-    pub and-lost : {q : After} → PastAt (drop x.at (bytes_at f x)) 6 64 q → q ≡ A.Nothing → HasHeadAs W.And f x y nest false
+    pub and-lost : {q : Option ℕ} → PastAt (drop x.at (bytes_at f x)) 6 64 q → q ≡ None → HasHeadAs W.And f x y nest false
     and-lost p e d a h =
         let (b, b', n) = clause-is d h in
         subst (λ (z : Clause Plain). Claim f x y (suc nest) false z) (sym n) (λ a l c t. absurd (first_found (octets "and") heads.0 c.stands (omega (arith, c.shallow)) p e)) a
@@ -242,7 +241,7 @@ module _ {f : Files} {x y : Spot} where
         ap (λ (v : Bool). v || has_head b' a) (sym e ∙ one))
         a
 
-    pub and_second : {z z' : Spot} {q : After} {n : ℕ} {s r : Bool} → z ≡ further x 6 → z' ≡ further x n → PastAt (drop x.at (bytes_at f x)) 6 64 q → q ≡ A.Next n → HasHead f z y nest s → s ≡ false → HasHead f z' y nest r → HasHeadAs W.And f x y nest r
+    pub and_second : {z z' : Spot} {q : Option ℕ} {n : ℕ} {s r : Bool} → z ≡ further x 6 → z' ≡ further x n → PastAt (drop x.at (bytes_at f x)) 6 64 q → q ≡ Some n → HasHead f z y nest s → s ≡ false → HasHead f z' y nest r → HasHeadAs W.And f x y nest r
     unfolding has_head
     and_second {n = n} {s = s} {r = r} i j p g k e k' d a h =
         let (b, b', u) = clause-is d h in

@@ -8,8 +8,7 @@ use Rattle.sexp.specs.Sexp.{Sexps, nil, cons, Stands, StandsAll, nesting, nestin
 use Rattle.packet.specs.Written.{atom_sexp, clause_sexp}
 use Rattle.packet.specs.File.{most_bytes}
 use Rattle.packet.specs.declared.Word.{Word}
-use Rattle.room.specs.Spot.{file_of}
-use Rattle.room.specs.Where.{Files}
+use Rattle.room.specs.Files.{Files, file_of}
 use Rattle.room.specs.declared.Spot.{Spot}
 use Rattle.heads.specs.Heads.{clause_word}
 
@@ -46,7 +45,7 @@ SamePredicate s t r =
 
 -- an atom, or a clause, at a spot
 abbrev pub bytes_at : Files → Spot → List ℕ
-bytes_at f x = file_of f.rules f.goal f.terms x.source
+bytes_at f x = file_of f x.source
 
 pub record AtomThere (f : Files) (x : Spot) (a : Atom) : Type 0 where
   pub stands : Stands (bytes_at f x) x.at (atom_sexp a)

@@ -10,13 +10,10 @@ use borrow.Author.Tests.{eqb-true, eqb-false}
 use Rattle.basics.specs.Choice.{choose}
 use Rattle.basics.specs.Tells.{Tells, told-yes}
 use Rattle.basics.specs.Text.{octets}
-use Rattle.sexp.specs.declared.skip.After.{After}
-use Rattle.sexp.specs.declared.skip.After.TheVariants as A
+use Rattle.std.specs.Prelude.{Option, Some, None}
 use Rattle.sexp.specs.Decimal.{decimal_onto, decimal}
 use Rattle.sexp.specs.Past.{Ends, PastAt}
 use Rattle.sexp.specs.Sexp.{Sexp, Sexps, str, list, nil, cons, spell, spells, Stands, StandsAll, nesting, nestings}
-use Rattle.sexp.specs.declared.words.Value.{Value}
-use Rattle.sexp.specs.declared.words.Value.TheVariants as Val
 use Rattle.sexp.specs.WordsAt.{Numeral, NumberAt}
 use Rattle.sexp.proofs.DecimalLaws.{onto-small}
 use Rattle.sexp.proofs.FoundLaws.{ends-others}
@@ -29,7 +26,7 @@ use Rattle.room.specs.Where.{plus}
 use Rattle.mentions.specs.Mentions.{inside, insides}
 use Rattle.held.specs.declared.variables.Met.{Met}
 use Rattle.held.specs.declared.variables.Met.TheVariants as M
-use Rattle.held.specs.Held.{begins, binds, after_first, asks_first, held_in, held_any, AroundAt, HeldAt, Holding, PastBy, Meets, MeetsVariable, PastVariable, met_by}
+use Rattle.held.specs.Held.{binds, after_first, asks_first, held_in, held_any, AroundAt, HeldAt, Holding, PastBy, Meets, MeetsVariable, PastVariable, met_by}
 use Rattle.held.proofs.VariableLaws.{slice, word-length, or-none, members-at, begins-told, around-insides, around-most, asks_none, asks-within, asks-without, held-list, held-variable, holding}
 
 -- members still to come: whether one of them holds a variable decides, unless one before them does
@@ -103,7 +100,7 @@ module _ (s : List ℕ) (at depth nest : ℕ) (p : ℕ → Bool) where
               }
 
       -- one is, and none stands there
-      left-lost : get_or s at 0 ≡ 40 → PastAt s q (nest - 1) A.Nothing → PastAt s at nest A.Nothing
+      left-lost : get_or s at 0 ≡ 40 → PastAt s q (nest - 1) None → PastAt s at nest None
       left-lost b f = none
         where
           some : (xs : Sexps) → StandsAll s q xs → nestings xs + 1 ≤ nest → ⊥
@@ -155,12 +152,12 @@ module _ (s : List ℕ) (at depth nest : ℕ) (p o : ℕ → Bool) where
   pub meets-asked : HeldAt s at depth nest p true → Meets s at depth nest p o M.Asked
   meets-asked H = holding s at depth nest p true H
 
-  pub meets-ended : {r : Met} (a : After) (b : Bool) → r ≡ met_by a b → PastAt s at nest a → HeldAt s at depth nest p false → HeldAt s at depth nest o b → Meets s at depth nest p o r
+  pub meets-ended : {r : Met} (a : Option ℕ) (b : Bool) → r ≡ met_by a b → PastAt s at nest a → HeldAt s at depth nest p false → HeldAt s at depth nest o b → Meets s at depth nest p o r
   meets-ended {r} a b e E H G = subst (Meets s at depth nest p o) (sym e) (go a E)
     where
-      go : (a : After) → PastAt s at nest a → Meets s at depth nest p o (met_by a b)
-      go (A.Next n) E = record { none = holding s at depth nest p false H; others = holding s at depth nest o b G; ends = E }
-      go A.Nothing E = E
+      go : (a : Option ℕ) → PastAt s at nest a → Meets s at depth nest p o (met_by a b)
+      go (Some n) E = record { none = holding s at depth nest p false H; others = holding s at depth nest o b G; ends = E }
+      go None E = E
 
   -- where it is known what is met: whether the expression holds a variable that is asked for
   pub met-asked : (r : Met) → r ≡ M.Asked → Meets s at depth nest p o r → Holding s at depth nest p true
@@ -225,18 +222,18 @@ module _ (s : List ℕ) (at depth nest : ℕ) (p o : ℕ → Bool) where
             (omega (arith, E.ends), omega (arith, E.ends))
 
 -- a variable, by its number
-module _ (s : List ℕ) (at depth nest : ℕ) (p o : ℕ → Bool) (small : length s ≤ slice) {j : ℕ} (k : j ≡ plus at 4) (n : Value) (N : NumberAt s j n) where
+module _ (s : List ℕ) (at depth nest : ℕ) (p o : ℕ → Bool) (small : length s ≤ slice) {j : ℕ} (k : j ≡ plus at 4) (n : Option ℕ) (N : NumberAt s j n) where
   there : NumberAt s (plus at 4) n
   there = subst (λ (i : ℕ). NumberAt s i n) k N
 
-  pub variable-none : {r : Met} (a : After) → n ≡ Val.Nothing → r ≡ met_by a false → PastAt s at nest a → MeetsVariable s at depth nest p o r
+  pub variable-none : {r : Met} (a : Option ℕ) → n ≡ None → r ≡ met_by a false → PastAt s at nest a → MeetsVariable s at depth nest p o r
   variable-none a y e E b z w = meets-ended s at depth nest p o a false e E (none p) (none o)
     where
       none : (p : ℕ → Bool) → HeldAt s at depth nest p false
       none p = held-variable s at depth nest p small b w false (asks_none s (plus at 4) depth p y there)
 
-  module _ {i : ℕ} (y : n ≡ Val.Is i) where
-    pub variable-within : {r : Met} (a : After) → i < depth → r ≡ met_by a false → PastVariable s at nest i a → MeetsVariable s at depth nest p o r
+  module _ {i : ℕ} (y : n ≡ Some i) where
+    pub variable-within : {r : Met} (a : Option ℕ) → i < depth → r ≡ met_by a false → PastVariable s at nest i a → MeetsVariable s at depth nest p o r
     variable-within a l e E b z w = meets-ended s at depth nest p o a false e (E b z w (number_is y there)) (none p) (none o)
       where
         none : (p : ℕ → Bool) → HeldAt s at depth nest p false
@@ -249,7 +246,7 @@ module _ (s : List ℕ) (at depth nest : ℕ) (p o : ℕ → Bool) (small : leng
       pub variable-asked : true ≡ p (i - depth) → MeetsVariable s at depth nest p o M.Asked
       variable-asked f b z w = meets-asked s at depth nest p o (says p true f b w)
 
-      pub variable-past : {r : Met} (a : After) (x : Bool) → false ≡ p (i - depth) → x ≡ o (i - depth) → r ≡ met_by a x → PastVariable s at nest i a → MeetsVariable s at depth nest p o r
+      pub variable-past : {r : Met} (a : Option ℕ) (x : Bool) → false ≡ p (i - depth) → x ≡ o (i - depth) → r ≡ met_by a x → PastVariable s at nest i a → MeetsVariable s at depth nest p o r
       variable-past a x f g e E b z w = meets-ended s at depth nest p o a x e (E b z w (number_is y there)) (says p false f b w) (says o x g b w)
 
 -- one whose number has one digit is eight bytes long

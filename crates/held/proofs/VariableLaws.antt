@@ -15,8 +15,7 @@ use Rattle.harrop.specs.Formula.{Term, Terms, Atom, Goal, Clause}
 use Rattle.harrop.specs.Bindings.{Bindings, same_name}
 use Rattle.harrop.specs.Place.{Plain}
 use Rattle.harrop.proofs.SameLaws.{same-names-equal, equal-names-same}
-use Rattle.sexp.specs.declared.words.Value.{Value}
-use Rattle.sexp.specs.declared.words.Value.TheVariants as Val
+use Rattle.std.specs.Prelude.{Option, Some, None}
 use Rattle.sexp.specs.Decimal.{decimal_onto}
 use Rattle.sexp.specs.Sexp.{Sexp, Sexps, str, hinted, list, nil, cons, spell, Stands, StandsAll, nesting}
 use Rattle.sexp.specs.Words.{is_number, worth}
@@ -103,14 +102,14 @@ list-no-string h g = false≢true (ap is_string (stands-once h g))
 
 -- the number after the word of a variable
 module _ (s : List ℕ) (at depth : ℕ) (p : ℕ → Bool) where
-  no_number : {v : Value} → v ≡ Val.Nothing → NumberAt s at v → (w : List ℕ) → Stands s at (str w) → is_number w ≡ false
+  no_number : {v : Option ℕ} → v ≡ None → NumberAt s at v → (w : List ℕ) → Stands s at (str w) → is_number w ≡ false
   no_number e n w h = go (is_number w) refl
     where
       go : (b : Bool) → is_number w ≡ b → b ≡ false
       go true f = absurd (number-nothing e n w h f)
       go false f = refl
 
-  pub asks_none : {v : Value} → v ≡ Val.Nothing → NumberAt s at v → AsksAt s at depth p false
+  pub asks_none : {v : Option ℕ} → v ≡ None → NumberAt s at v → AsksAt s at depth p false
   asks_none e n xs h = go xs h
     where
       go : (xs : Sexps) → StandsAll s at xs → false ≡ asks_first (insides depth p) xs
@@ -119,7 +118,7 @@ module _ (s : List ℕ) (at depth : ℕ) (p : ℕ → Bool) where
       go (cons (hinted t w) xs) h = refl
       go (cons (list ys) xs) h = refl
 
-  asks-number : {v : Value} {i : ℕ} (r : Bool) → v ≡ Val.Is i → NumberAt s at v → r ≡ insides depth p i → AsksAt s at depth p r
+  asks-number : {v : Option ℕ} {i : ℕ} (r : Bool) → v ≡ Some i → NumberAt s at v → r ≡ insides depth p i → AsksAt s at depth p r
   asks-number {v} {i} r e n f xs h = f ∙ go xs h
     where
       numeral : Numeral s at i
@@ -133,10 +132,10 @@ module _ (s : List ℕ) (at depth : ℕ) (p : ℕ → Bool) where
       go (cons (hinted t w) xs) h = absurd (hinted-no-string (first-stands h) numeral.stands)
       go (cons (list ys) xs) h = absurd (list-no-string (first-stands h) numeral.stands)
 
-  pub asks-within : {v : Value} {i : ℕ} → v ≡ Val.Is i → NumberAt s at v → i < depth → AsksAt s at depth p false
+  pub asks-within : {v : Option ℕ} {i : ℕ} → v ≡ Some i → NumberAt s at v → i < depth → AsksAt s at depth p false
   asks-within {i = i} e n l = asks-number false e n (sym (within depth p i l))
 
-  pub asks-without : {v : Value} {i : ℕ} (r : Bool) → v ≡ Val.Is i → NumberAt s at v → depth ≤ i → r ≡ p (i - depth) → AsksAt s at depth p r
+  pub asks-without : {v : Option ℕ} {i : ℕ} (r : Bool) → v ≡ Some i → NumberAt s at v → depth ≤ i → r ≡ p (i - depth) → AsksAt s at depth p r
   asks-without {i = i} r e n l f = asks-number r e n (f ∙ sym (without depth p i l))
 
 -- the word of a list

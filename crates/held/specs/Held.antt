@@ -6,8 +6,7 @@ use Rattle.basics.specs.Text.{octets}
 use Rattle.harrop.specs.Bindings.{same_name}
 use Rattle.harrop.specs.Formula.{Term, Goal, Clause}
 use Rattle.harrop.specs.Place.{Plain}
-use Rattle.sexp.specs.declared.skip.After.{After}
-use Rattle.sexp.specs.declared.skip.After.TheVariants as A
+use Rattle.std.specs.Prelude.{Option, Some, None}
 use Rattle.sexp.specs.Past.{Ends, PastAt}
 use Rattle.sexp.specs.Sexp.{Sexp, Sexps, Stands, StandsAll, nesting}
 use Rattle.sexp.specs.Words.{is_number, worth}
@@ -87,7 +86,7 @@ pub record PastBy (s : List ℕ) (at depth nest : ℕ) (p o : ℕ → Bool) (wit
 abbrev pub Meets : List ℕ → ℕ → ℕ → ℕ → (ℕ → Bool) → (ℕ → Bool) → Met → Type 0
 Meets s at depth nest p o M.Asked = Holding s at depth nest p true
 Meets s at depth nest p o (M.Past b n) = PastBy s at depth nest p o b n
-Meets s at depth nest p o M.Nothing = PastAt s at nest A.Nothing
+Meets s at depth nest p o M.Nothing = PastAt s at nest None
 
 -- the same where a list that may be there opens with the word of a variable, and its end where the number is known
 abbrev pub AtVariable : List ℕ → ℕ → ℕ → Type 0 → Type 0
@@ -96,10 +95,10 @@ AtVariable s at nest P = get_or s at 0 ≡ 40 → (nest ≡ 0 → ⊥) → Stand
 abbrev pub MeetsVariable : List ℕ → ℕ → ℕ → ℕ → (ℕ → Bool) → (ℕ → Bool) → Met → Type 0
 MeetsVariable s at depth nest p o r = AtVariable s at nest (Meets s at depth nest p o r)
 
-abbrev pub PastVariable : List ℕ → ℕ → ℕ → ℕ → After → Type 0
+abbrev pub PastVariable : List ℕ → ℕ → ℕ → ℕ → Option ℕ → Type 0
 PastVariable s at nest i r = AtVariable s at nest (Numeral s (plus at 4) i → PastAt s at nest r)
 
 -- what is met where none is that is asked for, by the end that was found
-abbrev pub met_by : After → Bool → Met
-met_by (A.Next n) b = M.Past b n
-met_by A.Nothing b = M.Nothing
+abbrev pub met_by : Option ℕ → Bool → Met
+met_by (Some n) b = M.Past b n
+met_by None b = M.Nothing

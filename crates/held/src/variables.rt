@@ -1,4 +1,5 @@
 // Whether an expression holds a variable that is unset in a frame, or one particular variable.
+// Kept: the bytes, the offset and what is left of the nesting stay parameters of their own; offset and nesting are others at each call.
 ghost use Rattle.std.specs.Prelude.{◌≡◌, true, false, ◌||◌, ℕ};
 ghost use Rattle.harrop.specs.Bindings.{Bindings};
 ghost use Rattle.room.specs.Spot.{bindings_at};
@@ -8,9 +9,10 @@ ghost use Rattle.held.specs.Held.{AroundAt, Holding, met_by, PastVariable, Meets
 use harrop::Binding;
 use places::plus;
 use room::{Spot, variable};
-use sexp::{After, Value, closes, is_word, number, opens, past};
+use sexp::{closes, is_word, number, opens, past};
 
 // What is met on the way through an expression.
+// Kept: three answers to three questions, none of them a failure; as a Result, `Asked`, which is a yes, would be an error, and both callers match on all three.
 #[derive(Clone, Copy)]
 pub enum Met {
     // A variable that is asked for; the rest of the expression is left alone.
@@ -65,17 +67,17 @@ fn around(s: &[u8], at: usize, depth: usize) -> usize
 }
 
 // An expression in which no variable that is asked for is met, by its end.
-fn ended(a: After, with: bool) -> Met
+fn ended(a: Option<usize>, with: bool) -> Met
     ensures { result ≡ met_by a with }
 {
     match a {
-        After::Next(n) => Met::Past(with, n),
-        After::Nothing => Met::Nothing,
+        Some(n) => Met::Past(with, n),
+        None => Met::Nothing,
     }
 }
 
 // Past the variable at an offset whose number is i. Nearly every number has one digit, and ends then where it must.
-fn past_variable(s: &[u8], at: usize, nest: usize, i: usize) -> After
+fn past_variable(s: &[u8], at: usize, nest: usize, i: usize) -> Option<usize>
     ensures { PastVariable s.now at nest i result }
 {
     if 9 < i {
@@ -84,7 +86,7 @@ fn past_variable(s: &[u8], at: usize, nest: usize, i: usize) -> After
     if !closes(s, plus(at, 7)) {
         return past(s, at, nest);
     }
-    After::Next(plus(at, 8))
+    Some(plus(at, 8))
 }
 
 // The variable at an offset, so many quantifiers inside the expression.
@@ -101,7 +103,7 @@ fn meets_variable(
 ) -> Met
     ensures { MeetsVariable s.now at depth nest (asked own (bindings_at room.now x) also v) (asked own (bindings_at room.now x) true v) result }
 {
-    let Value::Is(i) = number(s, plus(at, 4)) else {
+    let Some(i) = number(s, plus(at, 4)) else {
         return ended(past(s, at, nest), false);
     };
     if i < depth {
@@ -113,15 +115,8 @@ fn meets_variable(
     ended(past_variable(s, at, nest, i), i - depth == v)
 }
 
-// Whether one of two holds.
-fn either(a: bool, b: bool) -> bool
-    ensures { result ≡ a || b }
-{
-    if a { true } else { b }
-}
-
 // A member of a list: a word or a name holds nothing, and is passed at once.
-#[cycle(meets_meets_member)]
+#[cycle(meets)]
 fn meets_member(
     s: &[u8],
     at: usize,
@@ -142,7 +137,7 @@ fn meets_member(
 }
 
 // One walk through the expression at an offset, up to the first variable of the frame that is unset, or is variable v if that one is asked for.
-#[cycle(meets_meets_member)]
+#[cycle(meets)]
 pub fn meets(
     s: &[u8],
     at: usize,
@@ -174,7 +169,7 @@ pub fn meets(
                 return Met::Asked;
             }
             Met::Past(b, n) => {
-                with = either(with, b);
+                with |= b;
                 q = n;
             }
             Met::Nothing => {

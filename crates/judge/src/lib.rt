@@ -10,6 +10,7 @@ use request::judge_files;
 use start::clear;
 
 // What comes back. The place of a refusal is 0 but for number 7.
+// Kept: a refusal is a verdict as well as an acceptance is, and the theorems on `verdict_of` that README names say these two words.
 #[derive(Clone, Copy)]
 pub enum Verdict {
     Accepted {
@@ -24,6 +25,7 @@ pub enum Verdict {
 }
 
 // The verdict on four files, for any bytes and any room. The files are not written; the room is zero afterwards, or as it came if it is too short.
+// Kept: rules, goal and terms one by one, as README and docs/ name this call; inside they are one `Files`.
 pub fn judge<'a>(
     rules: &'a [u8],
     goal: &'a [u8],

@@ -8,16 +8,16 @@ ghost use Rattle.judge.specs.Halves.{Opens, ReadsAll, Stripping, Requesting};
 
 use crate::Verdict;
 use packet::{File, Kind, Reason};
-use reader::{Judged, Read, judge_file};
+use reader::{Counts, Refusal, read_file};
+use room::{Files, Source};
 use start::{fill_tables, first_place};
-use uses::Outcome;
 use walk::node;
 
 // What is found of the rules and of the terms.
 #[derive(Clone, Copy)]
 pub struct Books {
-    pub rules: Judged,
-    pub terms: Judged,
+    pub rules: Result<usize, Refusal>,
+    pub terms: Result<usize, Refusal>,
 }
 
 // The first half: rules and terms read, and their tables filled.
@@ -26,45 +26,35 @@ fn open_books(rules: &[u8], terms: &[u8], room: &mut [u32]) -> Books
 {
     fill_tables(rules, terms, room);
     Books {
-        rules: judge_file(rules, Kind::Rules),
-        terms: judge_file(terms, Kind::Terms),
+        rules: read_file(rules, Kind::Rules, File::Rules),
+        terms: read_file(terms, Kind::Terms, File::Terms),
     }
 }
 
 // The files in turn: what is found of goal and strip stands between and after what is found of rules and terms.
-fn read_files(books: Books, goal: &[u8], strip: &[u8]) -> Read
+fn read_files(books: Books, goal: &[u8], strip: &[u8]) -> Result<Counts, Refusal>
     ensures { ReadsAll goal.now strip.now books result }
 {
-    let first = books.rules;
-    let third = books.terms;
-    match first {
-        Judged::Refused(why, at) => Read::Refused(why, File::Rules, at),
-        Judged::Sound(n) => match judge_file(goal, Kind::Goal) {
-            Judged::Refused(why, at) => Read::Refused(why, File::Goal, at),
-            Judged::Sound(_) => match third {
-                Judged::Refused(why, at) => Read::Refused(why, File::Terms, at),
-                Judged::Sound(m) => match judge_file(strip, Kind::Strip) {
-                    Judged::Refused(why, at) => Read::Refused(why, File::Strip, at),
-                    Judged::Sound(_) => Read::Sound(n, m),
-                },
-            },
-        },
-    }
+    let n = books.rules?;
+    read_file(goal, Kind::Goal, File::Goal)?;
+    let m = books.terms?;
+    read_file(strip, Kind::Strip, File::Strip)?;
+    Ok(Counts {
+        rules: n,
+        candidates: m,
+    })
 }
 
 // The strip of a packet that is read, judged from the root place on.
-fn judge_strip<'a>(
-    rules: &'a [u8],
-    goal: &'a [u8],
-    terms: &'a [u8],
-    strip: &[u8],
-    room: &mut [u32],
-) -> Verdict
-    ensures { Stripping rules.now goal.now terms.now strip.now room.old room.new result }
+fn judge_strip(files: &Files, strip: &[u8], room: &mut [u32]) -> Verdict
+    ensures { Stripping files.now strip.now room.old room.new result }
 {
-    match node(rules, goal, terms, strip, 0, room, first_place(), 64) {
-        Outcome::Fits(_, height, nodes) => Verdict::Accepted { height, nodes },
-        Outcome::Misfit(place) => Verdict::Refused {
+    match node(files, strip, 0, room, first_place(), 64) {
+        Ok(fit) => Verdict::Accepted {
+            height: fit.height,
+            nodes: fit.nodes,
+        },
+        Err(place) => Verdict::Refused {
             reason: Reason::Misfit,
             file: File::Strip,
             place,
@@ -73,23 +63,16 @@ fn judge_strip<'a>(
 }
 
 // The second half: one goal and strip judged, where rules and terms are read and their tables filled.
-fn judge_request<'a>(
-    rules: &'a [u8],
-    goal: &'a [u8],
-    terms: &'a [u8],
-    strip: &[u8],
-    room: &mut [u32],
-    books: Books,
-) -> Verdict
-    ensures { Requesting rules.now goal.now terms.now strip.now room.old room.new books result }
+fn judge_request(files: &Files, strip: &[u8], room: &mut [u32], books: Books) -> Verdict
+    ensures { Requesting files.now strip.now room.old room.new books result }
 {
-    match read_files(books, goal, strip) {
-        Read::Refused(reason, file, _) => Verdict::Refused {
-            reason,
-            file,
+    match read_files(books, files.file(Source::Goal), strip) {
+        Err(x) => Verdict::Refused {
+            reason: x.reason,
+            file: x.file,
             place: 0,
         },
-        Read::Sound(_, _) => judge_strip(rules, goal, terms, strip, room),
+        Ok(_) => judge_strip(files, strip, room),
     }
 }
 
@@ -104,5 +87,5 @@ pub(crate) fn judge_files<'a>(
     ensures { words ≤ length room.old → result ≡ files_verdict (packet_of rules.now goal.now terms.now strip.now) }
 {
     let books = open_books(rules, terms, room);
-    judge_request(rules, goal, terms, strip, room, books)
+    judge_request(&Files::new(rules, goal, terms), strip, room, books)
 }

@@ -2,82 +2,57 @@
 // expected come from the second program alone.
 #![tactic(auto)]
 
-ghost use Rattle.std.specs.Prelude.{◌≡◌, ◌<◌, ◌≤◌, length};
+ghost use Rattle.std.specs.Prelude.{◌<◌, length};
 
 use judge::Verdict;
-use programs::{load, say, say_number, say_refused, string};
+use programs::{RefusalNumbers, filled, loaded, split_string};
 use std::io;
 
+// What cannot be printed is left out.
+// Kept: program `verdict` prints a verdict by the same words; crate `programs`, which both use, stands below the verdict's type.
 fn show(out: &impl Print, v: Verdict) {
-    match v {
-        Verdict::Accepted { height, nodes } => {
-            say(out, b"accepted");
-            say_number(out, height as u64);
-            say_number(out, nodes as u64);
-        }
+    let _ = match v {
+        Verdict::Accepted { height, nodes } => println!(out; "accepted {height} {nodes}"),
         Verdict::Refused {
             reason,
             file,
             place,
-        } => say_refused(out, reason, file, place),
-    }
-    say(out, b"\n");
+        } => out.println(RefusalNumbers::new(reason, file, place)),
+    };
 }
 
 // Judges one packet with a room of its own.
-fn judged<'a>(out: &impl Print, rules: &'a [u8], goal: &'a [u8], terms: &'a [u8], strip: &'a [u8]) {
+fn judged(out: &impl Print, rules: &[u8], goal: &[u8], terms: &[u8], strip: &[u8]) {
     let mut room = [0u32; 8192];
     show(out, judge::judge(rules, goal, terms, strip, &mut room));
 }
 
-// Judges the case at an offset, and answers where the next one starts.
-fn case(out: &impl Print, s: &[u8], at: usize) -> usize
-    requires { at < length s.now }
-    ensures { at ≤ result }
+// Judges the case that a file begins with, and answers what comes after it.
+fn case<'a>(out: &impl Print, file: &'a [u8]) -> &'a [u8]
+    requires { 0 < length file.now }
+    ensures { length result.now < length file.now }
 {
-    let rules = string(s, at);
-    let b = rules.from;
-    let c = rules.to;
-    let goal = string(s, c);
-    let d = goal.from;
-    let e = goal.to;
-    let terms = string(s, e);
-    let f = terms.from;
-    let g = terms.to;
-    let strip = string(s, g);
-    let h = strip.from;
-    let i = strip.to;
-    judged(out, &s[b..c], &s[d..e], &s[f..g], &s[h..i]);
-    i
+    let (rules, rest) = split_string(file);
+    let (goal, rest) = split_string(rest);
+    let (terms, rest) = split_string(rest);
+    let (strip, rest) = split_string(rest);
+    judged(out, rules, goal, terms, strip);
+    rest
 }
 
-fn cases(out: &impl Print, s: &[u8]) {
-    let mut at = 0;
-    while at < s.len() {
-        let next = case(out, s, at);
-        if next <= at {
-            return;
-        }
-        at = next;
+// Kept: the loop is each case program's own, since what a case is differs; a function of it would take that as a closure and say no less.
+fn cases(out: &impl Print, file: &[u8]) {
+    let mut rest = file;
+    while !rest.is_empty() {
+        rest = case(out, rest);
     }
 }
 
-// Bytes for a file.
-fn blank() -> [u8; 393216]
-    ensures { 393216 ≡ length result }
-{
-    [0; 393216]
-}
-
 fn main(rt: HostRuntime) -> io::Result<()> {
-    let mut buf = blank();
-    let k = load(&rt, b"cases1", &mut buf)?;
-    cases(&rt, &buf[..k]);
-    let l = load(&rt, b"cases2", &mut buf)?;
-    cases(&rt, &buf[..l]);
-    let m = load(&rt, b"cases3", &mut buf)?;
-    cases(&rt, &buf[..m]);
-    let n = load(&rt, b"cases4", &mut buf)?;
-    cases(&rt, &buf[..n]);
+    let mut buf: [u8; 393216] = filled(0);
+    let names: [&[u8]; 4] = [b"cases1", b"cases2", b"cases3", b"cases4"];
+    for name in names {
+        cases(&rt, loaded(&rt, name, &mut buf)?);
+    }
     Ok(())
 }

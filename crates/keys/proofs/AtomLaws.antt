@@ -10,16 +10,15 @@ use borrow.Author.Tests.{eqb-true, eqb-false}
 use Rattle.harrop.specs.Formula.{Name, Term, Terms, Atom}
 use Rattle.harrop.specs.Bindings.{replaceds}
 use Rattle.packet.specs.Written.{term_sexp, term_sexps, atom_sexp}
-use Rattle.sexp.specs.declared.skip.After.{After}
-use Rattle.sexp.specs.declared.skip.After.TheVariants as A
+use Rattle.std.specs.Prelude.{Option, Some, None}
 use Rattle.sexp.specs.Sexp.{str, Stands, StandsAll, nesting, nestings}
 use Rattle.sexp.specs.Past.{PastAt}
 use Rattle.sexp.proofs.AnswerLaws.{past_next, past-nothing}
 use Rattle.sexp.proofs.FoundLaws.{ends-here, ends-others}
 use Rattle.sexp.proofs.StandLaws.{first-stands, none-closes, no-closing}
 use Rattle.room.specs.Layout.{levels}
-use Rattle.room.specs.Spot.{file_of, bindings_at}
-use Rattle.room.specs.Where.{Files}
+use Rattle.room.specs.Spot.{bindings_at}
+use Rattle.room.specs.Files.{Files, file_of}
 use Rattle.room.specs.declared.Spot.{Spot}
 use Rattle.equal.proofs.TermLaws.{part-stands, atom-text, atom-rest}
 use Rattle.keys.specs.Key.{mix, text_key, terms_key, arguments_key}
@@ -66,12 +65,12 @@ module _ (s : List ℕ) (at h : ℕ) where
           go Terms.nil g l z = absurd (eqb-false (get_or s p 0) 41 (sym e ∙ t) (none-closes g))
           go (Terms.cons u us) g l z = record { first = u; others = us; stands = g; deep = omega (arith, l); shallow = omega (arith, l); same = z }
 
-      pub row-lost : {a : After} → a ≡ A.Nothing → PastAt s p 64 a → RowAt s at h 0
+      pub row-lost : {a : Option ℕ} → a ≡ None → PastAt s p 64 a → RowAt s at h 0
       row-lost z a ts g l =
           let N = next (L ts g l) in
           absurd (past-nothing z a (term_sexp N.first) (first-stands N.stands) N.deep)
 
-      pub row_next : {a : After} {i : ℕ} (m : ℕ) → m ≡ mix k 1 → a ≡ A.Next i → PastAt s p 64 a → RowLeft s at h i m
+      pub row_next : {a : Option ℕ} {i : ℕ} (m : ℕ) → m ≡ mix k 1 → a ≡ Some i → PastAt s p 64 a → RowLeft s at h i m
       row_next m y z a ts g l =
           let N = next (L ts g l) in
           record {
@@ -82,23 +81,23 @@ module _ (s : List ℕ) (at h : ℕ) where
           }
 
 -- an atom that a part of a file starts with: its name is gone past
-pub predicate-lost : (t : List ℕ) (r : ℕ) {a : After} → a ≡ A.Nothing → PastAt t 7 0 a → PredicateAt t r
+pub predicate-lost : (t : List ℕ) (r : ℕ) {a : Option ℕ} → a ≡ None → PastAt t 7 0 a → PredicateAt t r
 predicate-lost t r z a (Atom.atom m ts) g l = absurd (past-nothing z a (str m) (atom-text m ts g) (omega arith))
 
-pub atom-lost : (t room : List ℕ) (x : Spot) (r : ℕ) {a : After} → a ≡ A.Nothing → PastAt t 7 0 a → AtomAtKey t room x r
+pub atom-lost : (t room : List ℕ) (x : Spot) (r : ℕ) {a : Option ℕ} → a ≡ None → PastAt t 7 0 a → AtomAtKey t room x r
 atom-lost t room x r z a cs (Atom.atom m ts) K g l o = absurd (past-nothing z a (str m) (atom-text m ts g) (omega arith))
 
 -- and its arguments are what follows
-pub arguments-stand : (t : List ℕ) (m : Name) (ts : Terms) {a : After} {n : ℕ} → a ≡ A.Next n → PastAt t 7 0 a → Stands t 0 (atom_sexp (Atom.atom m ts)) → StandsAll t n (term_sexps ts)
+pub arguments-stand : (t : List ℕ) (m : Name) (ts : Terms) {a : Option ℕ} {n : ℕ} → a ≡ Some n → PastAt t 7 0 a → Stands t 0 (atom_sexp (Atom.atom m ts)) → StandsAll t n (term_sexps ts)
 arguments-stand t m ts z a g =
     subst (λ (i : ℕ). StandsAll t i (term_sexps ts)) (sym (ends-here (atom-text m ts g) (past_next z a))) (atom-rest m ts g)
 
-pub predicate-made : (t : List ℕ) {a : After} {n h k : ℕ} (r : ℕ) → a ≡ A.Next n → PastAt t 7 0 a → TextAt t 7 h → RowAt t n h k → r ≡ k % 1073741824 * 2 + 2 → PredicateAt t r
+pub predicate-made : (t : List ℕ) {a : Option ℕ} {n h k : ℕ} (r : ℕ) → a ≡ Some n → PastAt t 7 0 a → TextAt t 7 h → RowAt t n h k → r ≡ k % 1073741824 * 2 + 2 → PredicateAt t r
 predicate-made t {k = k} r z a T R e (Atom.atom m ts) g l =
     let y : k ≡ arguments_key (text_key m) ts = R ts (arguments-stand t m ts z a g) (omega (arith, l)) ∙ ap (λ (j : ℕ). arguments_key j ts) (T m (atom-text m ts g)) in
     omega (arith, e, y, arguments-small (text_key m) ts (text-small m))
 
-pub atom-made : (t room : List ℕ) (x : Spot) {a : After} {n h k : ℕ} (r : ℕ) → a ≡ A.Next n → PastAt t 7 0 a → TextAt t 7 h → TermsAtKey t n room x h 64 k → r ≡ k % 1073741824 * 2 + 1 → AtomAtKey t room x r
+pub atom-made : (t room : List ℕ) (x : Spot) {a : Option ℕ} {n h k : ℕ} (r : ℕ) → a ≡ Some n → PastAt t 7 0 a → TextAt t 7 h → TermsAtKey t n room x h 64 k → r ≡ k % 1073741824 * 2 + 1 → AtomAtKey t room x r
 atom-made t room x {k = k} r z a T R e cs (Atom.atom m ts) K g l o =
     let us = replaceds cs (bindings_at room x) ts in
     let y : k ≡ terms_key (text_key m) us = R cs false ts K (arguments-stand t m ts z a g) o (omega (arith, l)) (omega (arith, l)) ∙ ap (λ (j : ℕ). terms_key j us) (T m (atom-text m ts g)) in
@@ -107,7 +106,7 @@ atom-made t room x {k = k} r z a T R e cs (Atom.atom m ts) K g l o =
 -- at a spot
 module _ (f : Files) (x : Spot) where
   abbrev file : List ℕ
-  file = file_of f.rules f.goal f.terms x.source
+  file = file_of f x.source
 
   pub term-there : (room : List ℕ) {s : List ℕ} (r : ℕ) → s ≡ drop 0 file → TermAtKey s x.at room x 64 r → TermKeyAt f room x r
   term-there room r e H cs t C K T =

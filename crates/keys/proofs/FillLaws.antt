@@ -17,12 +17,13 @@ use Rattle.packet.specs.Barred.{term_ok, clause_ok}
 use Rattle.sexp.specs.Sexp.{Stands, nesting}
 use Rattle.room.specs.Layout.{words, levels, rules_word, rule_word, candidates_word, candidate_word}
 use Rattle.room.specs.Spot.{bindings_at, nowhere}
-use Rattle.room.specs.Where.{files_of, Booked}
+use Rattle.room.specs.Where.{Booked}
+use Rattle.room.specs.Files.{files_of}
 use Rattle.room.specs.declared.Spot.{Spot}
 use Rattle.equal.proofs.TermLaws.{closed-stays}
 use Rattle.keys.specs.Key.{term_key, clause_key}
 use Rattle.keys.specs.Walk.{kept_word, TermAtKey, ClauseAt}
-use Rattle.keys.specs.Chains.{link_at, first_at, Chained, Within, ChainsFilled}
+use Rattle.keys.specs.Chains.{link_at, first_at, Chained, ChainsFilled}
 use Rattle.keys.specs.Keys.{key_word, keys_end, rule_chains, candidate_chains, CandidateKeys, CandidatesDone, RulesDone, CandidatesKept, RulesKept, KeysFilled}
 use Rattle.keys.proofs.WalkLaws.{keyed-none}
 use Rattle.keys.proofs.ChainLaws.{within_none, within_more, chained-kept}

@@ -17,20 +17,18 @@ use Rattle.packet.specs.Barred.{atom_ok, goal_ok, clause_ok}
 use Rattle.packet.specs.declared.Word.{Word}
 use Rattle.packet.specs.declared.Word.TheVariants as W
 use Rattle.packet.specs.declared.Kind.TheVariants as K
-use Rattle.rows.specs.declared.table.Row.TheVariants as R
 use Rattle.rows.specs.Rows.{row_of}
 use Rattle.packet.specs.Table.{due_after}
 use Rattle.reader.specs.WordAt.{WordAt}
-use Rattle.sexp.specs.declared.skip.After.{After}
-use Rattle.sexp.specs.declared.skip.After.TheVariants as A
+use Rattle.std.specs.Prelude.{Option, Some, None}
 use Rattle.sexp.specs.Sexp.{Sexp, str, Stands, StandsAll, nesting, nestings}
 use Rattle.sexp.specs.Past.{PastAt}
 use Rattle.sexp.proofs.AnswerLaws.{past_next, past-nothing}
 use Rattle.sexp.proofs.FoundLaws.{ends-here, ends-others}
 use Rattle.sexp.proofs.StandLaws.{first-stands, none-closes, no-closing}
 use Rattle.room.specs.Layout.{levels}
-use Rattle.room.specs.Spot.{file_of, bindings_at, nowhere}
-use Rattle.room.specs.Where.{Files}
+use Rattle.room.specs.Spot.{bindings_at, nowhere}
+use Rattle.room.specs.Files.{Files, file_of}
 use Rattle.room.specs.declared.Spot.{Spot}
 use Rattle.room.proofs.NestLaws.{term-nests, clause-nests}
 use Rattle.equal.proofs.TermLaws.{part-stands, term_text, term_rest, term-word, term-text, term-rest, text-once, atom-text, rest-shallow}
@@ -69,10 +67,10 @@ module _ (s : List ℕ) (at nest : ℕ) where
         by-rest (Term.f m ts) g = refl
         by-rest (Term.e m) g = refl
 
-        pub has-lost : {a : After} → a ≡ A.Nothing → PastAt t 4 0 a → HasVariable s at nest false
+        pub has-lost : {a : Option ℕ} → a ≡ None → PastAt t 4 0 a → HasVariable s at nest false
         has-lost z a u g l n = absurd (past-nothing z a (str (term_text u)) (term-text u (here u g)) (omega arith))
 
-        pub has_rest : {a : After} {i : ℕ} (q : Bool) → a ≡ A.Next i → PastAt t 4 0 a → (nest ≡ 0 → ⊥) → HaveVariable t i (nest - 1) q → HasVariable s at nest q
+        pub has_rest : {a : Option ℕ} {i : ℕ} (q : Bool) → a ≡ Some i → PastAt t 4 0 a → (nest ≡ 0 → ⊥) → HaveVariable t i (nest - 1) q → HasVariable s at nest q
         has_rest {i = i} q z a y H u g l n =
             let w = here u g in
             H (term_rest u) (subst (λ (j : ℕ). StandsAll t j (term_sexps (term_rest u))) (sym (ends-here (term-text u w) (past_next z a))) (term-rest u w))
@@ -139,12 +137,12 @@ module _ (s : List ℕ) (at nest : ℕ) where
           let N = next (L ts g l n) in
           sym (N.same ∙ ap (λ (b : Bool). b || mentions_terms (λ _. true) N.others) y)
 
-      pub have-lost : {a : After} → a ≡ A.Nothing → PastAt s p 64 a → HaveVariable s at nest false
+      pub have-lost : {a : Option ℕ} → a ≡ None → PastAt s p 64 a → HaveVariable s at nest false
       have-lost z a ts g l n =
           let N = next (L ts g l n) in
           absurd (past-nothing z a (term_sexp N.first) (first-stands N.stands) N.deep)
 
-      pub have-next : {a : After} {i : ℕ} → r ≡ false → a ≡ A.Next i → PastAt s p 64 a → HaveLeft s at nest i
+      pub have-next : {a : Option ℕ} {i : ℕ} → r ≡ false → a ≡ Some i → PastAt s p 64 a → HaveLeft s at nest i
       have-next y z a ts g l n =
           let N = next (L ts g l n) in
           record {
@@ -156,11 +154,11 @@ module _ (s : List ℕ) (at nest : ℕ) where
           }
 
 -- a head: its own number if it holds no variable, else its predicate's
-module _ (t : List ℕ) {a : After} (q : PastAt t 7 0 a) where
-  pub head-lost : (r : ℕ) → a ≡ A.Nothing → HeadAt t r
+module _ (t : List ℕ) {a : Option ℕ} (q : PastAt t 7 0 a) where
+  pub head-lost : (r : ℕ) → a ≡ None → HeadAt t r
   head-lost r z (Atom.atom m ts) n g l o = absurd (past-nothing z q (str m) (atom-text m ts g) (omega arith))
 
-  module _ {i : ℕ} (z : a ≡ A.Next i) {v : Bool} (H : HaveVariable t i 64 v) where
+  module _ {i : ℕ} (z : a ≡ Some i) {v : Bool} (H : HaveVariable t i 64 v) where
     mentions : (m : List ℕ) (ts : Terms) → Stands t 0 (atom_sexp (Atom.atom m ts)) → nesting (atom_sexp (Atom.atom m ts)) ≤ levels → v ≡ mentions_terms (λ _. true) ts
     mentions m ts g l = H ts (arguments-stand t m ts z q g) (omega (arith, l)) (omega (arith, l))
 
@@ -176,11 +174,11 @@ module _ (t : List ℕ) {a : After} (q : PastAt t 7 0 a) where
         ∙ ap (λ (b : Bool). choose b (predicate_key (Atom.atom m ts)) (atom_key (Atom.atom m ts))) (sym none)
 
 -- behind an implication
-module _ (t : List ℕ) {a : After} (q : PastAt t 6 64 a) where
-  pub imp-lost : (r : ℕ) → a ≡ A.Nothing → ImpAt t r
+module _ (t : List ℕ) {a : Option ℕ} (q : PastAt t 6 64 a) where
+  pub imp-lost : (r : ℕ) → a ≡ None → ImpAt t r
   imp-lost r z g b n h l o = absurd (first_found (octets "imp") heads.1.1.1.1 h (omega (arith, l)) q z)
 
-  pub imp_head : {i : ℕ} {w : List ℕ} (r : ℕ) → a ≡ A.Next i → w ≡ drop i t → HeadAt w r → ImpAt t r
+  pub imp_head : {i : ℕ} {w : List ℕ} (r : ℕ) → a ≡ Some i → w ≡ drop i t → HeadAt w r → ImpAt t r
   imp_head {i} {w} r z e H g b n h l o =
       let st = subst (λ (j : ℕ). Stands t j (atom_sexp b)) {x = 0 + i} {y = i} (omega arith) (second-found (octets "imp") heads.1.1.1.1 h q z) in
       H b n (subst (λ (k : List ℕ). Stands k 0 (atom_sexp b)) (sym e) (part-stands st)) (omega (arith, l)) (both_true (goal_ok n g) (atom_ok n b) o).1
@@ -222,9 +220,9 @@ module _ (s : List ℕ) (at nest : ℕ) where
         (λ n g l m o. H b (suc n) (subst (λ (j : ℕ). Stands t j (clause_sexp b)) {x = 0 + 6} {y = 6} (omega arith) (first_part (octets "all") heads.1.1.1.0 (there (clause_sexp (Clause.all_d c b)) g))) (omega (arith, l)) (omega (arith, m, w)) o)
         n g
 
-    pub clause-other : R.Nothing ≡ row_of (due_after K.Clause k) → ClauseAt s at nest 0
+    pub clause-other : None ≡ row_of (due_after K.Clause k) → ClauseAt s at nest 0
     clause-other w d n g l m o = absurd (clause-has-row d k (says d g) w)
 
 -- at a spot
-pub rule-there : (f : Files) (x : Spot) {s : List ℕ} (r : ℕ) → s ≡ drop 0 (file_of f.rules f.goal f.terms x.source) → ClauseAt s x.at 64 r → RuleKeyAt f x r
+pub rule-there : (f : Files) (x : Spot) {s : List ℕ} (r : ℕ) → s ≡ drop 0 (file_of f x.source) → ClauseAt s x.at 64 r → RuleKeyAt f x r
 rule-there f x r e H d n T o = H d n (subst (λ (l : List ℕ). Stands l x.at (clause_sexp d)) (sym e) T.stands) T.shallow T.shallow o

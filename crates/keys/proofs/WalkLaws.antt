@@ -2,7 +2,7 @@
 use Prim.Native.Nat.{ℕ, ◌+◌, ◌-◌, ◌≤◌, ◌<◌}
 use mathlib.Core.Path.{◌≡◌, refl, sym, ◌∙◌, ap, subst}
 use mathlib.Core.Bool.{Bool, true, false}
-use mathlib.Core.List.{List}
+use mathlib.Core.List.{List, [], ◌∷◌}
 use mathlib.Core.Option.{none, some}
 use native.Mathlib.Omega.{arith}
 use lib.Dec.{eqb, ltb}
@@ -18,10 +18,8 @@ use Rattle.harrop.specs.Bindings.{meant, replaced, replaceds, nothing}
 use Rattle.harrop.proofs.ListLaws.{below-member, beyond-none}
 use Rattle.packet.specs.Written.{term_sexp, term_sexps}
 use Rattle.packet.specs.Barred.{term_ok, terms_ok}
-use Rattle.sexp.specs.declared.words.Value.{Value}
-use Rattle.sexp.specs.declared.words.Value.TheVariants as Val
-use Rattle.sexp.specs.declared.skip.After.{After}
-use Rattle.sexp.specs.declared.skip.After.TheVariants as A
+use Rattle.std.specs.List.{fold}
+use Rattle.std.specs.Prelude.{Option, Some, None}
 use Rattle.sexp.specs.Sexp.{str, Stands, StandsAll, nesting, nestings}
 use Rattle.sexp.specs.Past.{PastAt}
 use Rattle.sexp.specs.Strings.{Plain}
@@ -47,13 +45,10 @@ use Rattle.keys.specs.Walk.{TextAt, kept_word, candidate_key, binding_key, Keyed
 use Rattle.keys.specs.Keys.{CandidateKeys}
 
 -- the octets of a name, one by one
-pub text-next : (w : Name) (i h : ℕ) {k : ℕ} → i < length w → text_key w ≡ text_from h (drop i w) → k ≡ more h (get_or w i 0) → text_key w ≡ text_from k (drop (i + 1) w)
+pub text-folds : (h : ℕ) (w : Name) → fold more h w ≡ text_from h w
 unfolding text_from
-text-next w i h {k} l e f = e ∙ ap (text_from h) (drop_here w i l) ∙ ap (λ (j : ℕ). text_from j (drop (i + 1) w)) (sym f)
-
-pub text-end : (w : Name) (i h : ℕ) → length w ≤ i → text_key w ≡ text_from h (drop i w) → h ≡ text_key w
-unfolding text_from
-text-end w i h l e = sym (e ∙ ap (text_from h) (drop_of_length-le w {i = i} l))
+text-folds h [] = refl
+text-folds h (c ∷ cs) = text-folds (more h c) cs
 
 -- the name at an offset
 pub text-told : (s : List ℕ) (at b n : ℕ) {r : ℕ} → Plain s at b n → r ≡ text_key (take (b + n - b) (drop b s)) → TextAt s at r
@@ -63,17 +58,17 @@ text-told s at b n p e w h =
     ∙ ap text_key (sym (found_plain h p).1)
 
 -- the number after a word of one letter
-pub variable-lost : (t room : List ℕ) (x : Spot) (r : ℕ) {v : Value} → v ≡ Val.Nothing → NumberAt t 4 v → VariableAt t room x r
+pub variable-lost : (t room : List ℕ) (x : Spot) (r : ℕ) {v : Option ℕ} → v ≡ None → NumberAt t 4 v → VariableAt t room x r
 variable-lost t room x r {v} e a i h l = absurd (unread (number_read i v h l a) e)
 
-pub parameter-lost : (t : List ℕ) (r : ℕ) {v : Value} → v ≡ Val.Nothing → NumberAt t 4 v → ParameterAt t r
+pub parameter-lost : (t : List ℕ) (r : ℕ) {v : Option ℕ} → v ≡ None → NumberAt t 4 v → ParameterAt t r
 parameter-lost t r {v} e a i h l = absurd (unread (number_read i v h l a) e)
 
-pub variable-told : (t room : List ℕ) (x : Spot) {v : Value} {k r : ℕ} {b : Binding} → v ≡ Val.Is k → NumberAt t 4 v → b ≡ bound_to (bindings_at room x) k → r ≡ binding_key room b → VariableAt t room x r
+pub variable-told : (t room : List ℕ) (x : Spot) {v : Option ℕ} {k r : ℕ} {b : Binding} → v ≡ Some k → NumberAt t 4 v → b ≡ bound_to (bindings_at room x) k → r ≡ binding_key room b → VariableAt t room x r
 variable-told t room x e a f g i h l =
     g ∙ ap (binding_key room) f ∙ ap (λ (j : ℕ). binding_key room (bound_to (bindings_at room x) j)) (number-some e a i h l)
 
-pub parameter-told : (t : List ℕ) {v : Value} {k m r : ℕ} → v ≡ Val.Is k → NumberAt t 4 v → m ≡ held k → r ≡ mix 5 m → ParameterAt t r
+pub parameter-told : (t : List ℕ) {v : Option ℕ} {k m r : ℕ} → v ≡ Some k → NumberAt t 4 v → m ≡ held k → r ≡ mix 5 m → ParameterAt t r
 parameter-told t {m = m} e a f g i h l = let z = number-some e a i h l in g ∙ ap (mix 5) {x = m} {y = i} (omega (arith, f, z, l))
 
 -- what the room says of bindings, where its tables are right
@@ -142,7 +137,7 @@ module _ (t room : List ℕ) (x : Spot) {r : Bool} (h : Tells r (Stands t 1 (str
         go (Term.f m ts) g o = absurd (no-f-e (text-once (term-word (Term.f m ts) g) (told-yes f h')))
         go (Term.e m) g o = P m (term-text (Term.e m) g) (parameter-small holds m o)
 
-    pub begins-lost : {a : After} → q ≡ false → a ≡ A.Nothing → PastAt t 4 0 a → BeginsAt t room x (Key 0)
+    pub begins-lost : {a : Option ℕ} → q ≡ false → a ≡ None → PastAt t 4 0 a → BeginsAt t room x (Key 0)
     begins-lost f z a cs holds u K g o = go u g
       where
         go : (u : Term) → Stands t 0 (term_sexp u) → 0 ≡ term_key (replaced cs (bindings_at room x) u)
@@ -150,7 +145,7 @@ module _ (t room : List ℕ) (x : Spot) {r : Bool} (h : Tells r (Stands t 1 (str
         go (Term.f m ts) g = absurd (past-nothing z a (str m) (term-text (Term.f m ts) g) (omega arith))
         go (Term.e m) g = absurd (told-no f h' (term-word (Term.e m) g))
 
-    pub begins-rest : {a : After} {n k : ℕ} → q ≡ false → a ≡ A.Next n → PastAt t 4 0 a → TextAt t 4 k → BeginsAt t room x (Rest n k)
+    pub begins-rest : {a : Option ℕ} {n k : ℕ} → q ≡ false → a ≡ Some n → PastAt t 4 0 a → TextAt t 4 k → BeginsAt t room x (Rest n k)
     begins-rest {n = n} {k = k} f z a T cs holds u K g o = go u g o
       where
         go : (u : Term) → Stands t 0 (term_sexp u) → term_ok holds x.count u ≡ true → RestOf t room cs x n k holds u
@@ -241,12 +236,12 @@ module _ (s : List ℕ) (at : ℕ) (room : List ℕ) (x : Spot) (h nest : ℕ) w
                 same = z ∙ ap (λ (j : ℕ). terms_key (mix k j) (replaceds cs (bindings_at room x) us)) (sym y);
               }
 
-      pub keys-lost : {a : After} → a ≡ A.Nothing → PastAt s p 64 a → TermsAtKey s at room x h nest 0
+      pub keys-lost : {a : Option ℕ} → a ≡ None → PastAt s p 64 a → TermsAtKey s at room x h nest 0
       keys-lost z a cs holds ts K g o l n =
           let N = next K (L cs holds ts K g o l n) in
           absurd (past-nothing z a (term_sexp N.first) (first-stands N.stands) N.deep)
 
-      pub keys-next : {a : After} {i : ℕ} (m : ℕ) → m ≡ mix k q → a ≡ A.Next i → PastAt s p 64 a → KeysLeft s at room x h nest i m
+      pub keys-next : {a : Option ℕ} {i : ℕ} (m : ℕ) → m ≡ mix k q → a ≡ Some i → PastAt s p 64 a → KeysLeft s at room x h nest i m
       keys-next {i = i} m y z a cs holds ts K g o l n =
           let N = next K (L cs holds ts K g o l n) in
           record {

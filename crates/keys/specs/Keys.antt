@@ -1,5 +1,5 @@
 -- The numbers at spots of the files, and the tables of them in the room (document 02, Three): those of rules in 256 words, those of candidates in the 256 words after them, and the chains of both.
-use Rattle.std.specs.Prelude.{ℕ, ◌+◌, ◌≤◌, ◌<◌, min, ◌≡◌, Bool, true, false, List, length, get_or}
+use Rattle.std.specs.Prelude.{ℕ, ◌+◌, ◌≤◌, ◌<◌, min, ◌≡◌, true, List, length, get_or}
 use Rattle.std.proofs.Math.Option.{some}
 use Rattle.std.proofs.Math.ListN.{get_elem?}
 use Rattle.harrop.specs.Formula.{Term, Atom, Clause}
@@ -12,7 +12,8 @@ use Rattle.room.specs.Layout.{words, levels, rules_word, rule_word, candidates_w
 use Rattle.room.specs.Spot.{bindings_at}
 use Rattle.room.specs.Table.{CandidatesIn}
 use Rattle.equal.specs.Term.{TermAt, AtomAt}
-use Rattle.room.specs.Where.{Files, files_of, Booked}
+use Rattle.room.specs.Where.{Booked}
+use Rattle.room.specs.Files.{Files, files_of}
 use Rattle.room.specs.declared.Spot.{Spot}
 use Rattle.heads.specs.Predicate.{AtomThere, ClauseThere}
 use Rattle.keys.specs.Key.{term_key, atom_key, predicate_key, clause_key}
@@ -52,11 +53,11 @@ pub record KeysIn (room : List ℕ) (ds : List (Clause Plain)) (cs : List Term) 
 -- the answer is the number of the term, of the atom, of the atom's predicate, or of the clause at a spot
 abbrev pub TermKeyAt : Files → List ℕ → Spot → ℕ → Type 0
 TermKeyAt f room x r =
-    (cs : List Term) (t : Term) → CandidatesIn room f.terms cs → CandidateKeys room cs → TermAt f.rules f.goal f.terms x t → r ≡ term_key (replaced cs (bindings_at room x) t)
+    (cs : List Term) (t : Term) → CandidatesIn room f.terms cs → CandidateKeys room cs → TermAt f x t → r ≡ term_key (replaced cs (bindings_at room x) t)
 
 abbrev pub AtomKeyAt : Files → List ℕ → Spot → ℕ → Type 0
 AtomKeyAt f room x r =
-    (cs : List Term) (a : Atom) → CandidatesIn room f.terms cs → CandidateKeys room cs → AtomAt f.rules f.goal f.terms x a → r ≡ atom_key (replaced_atom cs (bindings_at room x) a)
+    (cs : List Term) (a : Atom) → CandidatesIn room f.terms cs → CandidateKeys room cs → AtomAt f x a → r ≡ atom_key (replaced_atom cs (bindings_at room x) a)
 
 abbrev pub PredicateKeyAt : Files → Spot → ℕ → Type 0
 PredicateKeyAt f x r = (a : Atom) → AtomThere f x a → r ≡ predicate_key a

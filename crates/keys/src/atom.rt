@@ -1,12 +1,12 @@
 // The number of an atom under its bindings, and the number of its predicate: of its name and how many arguments it has. Where both are asked for, the atom is walked once.
-ghost use Rattle.room.specs.Where.{files_of};
+// Kept: the bytes, the offset and what is left of the nesting stay parameters of their own; offset and nesting are others at each call.
 ghost use Rattle.keys.specs.Walk.{RowAt, TermsAtKey, PredicateAt, AtomAtKey};
 ghost use Rattle.keys.specs.Keys.{AtomKeyAt, PredicateKeyAt};
 
 use crate::mix::{even, mix, odd, text_key};
 use crate::term::{key_at, keys_at};
-use room::{Spot, part};
-use sexp::{After, closes, past};
+use room::{Files, Spot};
+use sexp::{closes, past};
 
 // The numbers of an atom: of its predicate and its own.
 #[derive(Clone, Copy)]
@@ -21,9 +21,10 @@ fn row_key(s: &[u8], at: usize, h: u32) -> u32
 {
     let mut p = at;
     let mut k = h;
+    // Kept: the place goes on by what each member takes, and a member that cannot be passed ends all.
     while !closes(s, p) {
         k = mix(k, 1);
-        let After::Next(n) = past(s, p, 64) else {
+        let Some(n) = past(s, p, 64) else {
             return 0;
         };
         p = n;
@@ -35,7 +36,7 @@ fn row_key(s: &[u8], at: usize, h: u32) -> u32
 pub(crate) fn predicate_of(t: &[u8]) -> u32
     ensures { PredicateAt t.now result }
 {
-    let After::Next(n) = past(t, 7, 0) else {
+    let Some(n) = past(t, 7, 0) else {
         return 0;
     };
     even(row_key(t, n, text_key(t, 7)))
@@ -45,22 +46,21 @@ pub(crate) fn predicate_of(t: &[u8]) -> u32
 pub(crate) fn atom_of(t: &[u8], room: &[u32], x: Spot) -> u32
     ensures { AtomAtKey t.now room.now x result }
 {
-    let After::Next(n) = past(t, 7, 0) else {
+    let Some(n) = past(t, 7, 0) else {
         return 0;
     };
     odd(keys_at(t, n, room, x, text_key(t, 7), 64))
 }
 
 // The number of the predicate of the atom at a spot.
-pub fn predicate_key<'a>(rules: &'a [u8], goal: &'a [u8], terms: &'a [u8], x: Spot) -> u32
-    ensures { PredicateKeyAt (files_of rules.now goal.now terms.now) x result }
+pub fn predicate_key(files: &Files, x: Spot) -> u32
+    ensures { PredicateKeyAt files.now x result }
 {
-    let source = x.source;
-    predicate_of(part(rules, goal, terms, source, x.at))
+    predicate_of(files.part(x))
 }
 
 // Both numbers of a row of arguments, from a number on.
-fn both_at<'a>(s: &'a [u8], at: usize, room: &[u32], x: Spot, h: u32) -> Both
+fn both_at(s: &[u8], at: usize, room: &[u32], x: Spot, h: u32) -> Both
     ensures { RowAt s.now at h result.predicate × TermsAtKey s.now at room.now x h 64 result.key }
 {
     let mut p = at;
@@ -69,7 +69,7 @@ fn both_at<'a>(s: &'a [u8], at: usize, room: &[u32], x: Spot, h: u32) -> Both
     while !closes(s, p) {
         predicate = mix(predicate, 1);
         key = mix(key, key_at(s, p, room, x, 64));
-        let After::Next(n) = past(s, p, 64) else {
+        let Some(n) = past(s, p, 64) else {
             return Both {
                 predicate: 0,
                 key: 0,
@@ -84,7 +84,7 @@ fn both_at<'a>(s: &'a [u8], at: usize, room: &[u32], x: Spot, h: u32) -> Both
 fn both_of(t: &[u8], room: &[u32], x: Spot) -> Both
     ensures { PredicateAt t.now result.predicate × AtomAtKey t.now room.now x result.key }
 {
-    let After::Next(n) = past(t, 7, 0) else {
+    let Some(n) = past(t, 7, 0) else {
         return Both {
             predicate: 0,
             key: 0,
@@ -98,15 +98,8 @@ fn both_of(t: &[u8], room: &[u32], x: Spot) -> Both
 }
 
 // Both numbers of the atom at a spot.
-pub fn both_keys<'a>(
-    rules: &'a [u8],
-    goal: &'a [u8],
-    terms: &'a [u8],
-    room: &[u32],
-    x: Spot,
-) -> Both
-    ensures { PredicateKeyAt (files_of rules.now goal.now terms.now) x result.predicate × AtomKeyAt (files_of rules.now goal.now terms.now) room.now x result.key }
+pub fn both_keys(files: &Files, room: &[u32], x: Spot) -> Both
+    ensures { PredicateKeyAt files.now x result.predicate × AtomKeyAt files.now room.now x result.key }
 {
-    let source = x.source;
-    both_of(part(rules, goal, terms, source, x.at), room, x)
+    both_of(files.part(x), room, x)
 }

@@ -4,7 +4,7 @@ ghost use Rattle.room.specs.Frame.{held};
 ghost use Rattle.keys.specs.Key as key;
 ghost use Rattle.keys.specs.Walk.{TextAt};
 
-use sexp::{Octets, plain};
+use sexp::plain;
 
 // A number mixed with another.
 pub(crate) fn mix(h: u32, x: u32) -> u32
@@ -26,13 +26,7 @@ fn more(h: u32, octet: u8) -> u32
 fn octets_key(w: &[u8]) -> u32
     ensures { result ≡ key.text_key w.now }
 {
-    let mut h: u32 = 1;
-    let mut i = 0;
-    while i < w.len() {
-        h = more(h, w[i]);
-        i += 1;
-    }
-    h
+    w.iter().fold(1, |h, octet| more(h, *octet))
 }
 
 // The number of the name at an offset.
@@ -40,22 +34,11 @@ pub(crate) fn text_key(s: &[u8], at: usize) -> u32
     ensures { TextAt s.now at result }
 {
     match plain(s, at) {
-        Octets::Nothing => 0,
-        Octets::Span(from, count) => {
+        None => 0,
+        Some((from, count)) => {
             let to = from + count;
             octets_key(&s[from..to])
         }
-    }
-}
-
-// What a word holds of a number.
-pub(crate) fn hold(n: usize) -> u32
-    ensures { result ≡ held n }
-{
-    if n < 0xffff_ffff {
-        n as u32
-    } else {
-        0xffff_ffff
     }
 }
 

@@ -1,11 +1,13 @@
 // Which clause at hand comes next that may serve an atom, by the numbers that the room keeps for rules (document 02, Three: a rule that cannot match is not visited).
 // A rule may serve it whose number is 0, that of its predicate or its own; the rules with one number are found along the chain of it, and so are candidates.
+// Kept: the room comes with the word that a frame or a table begins or ends at, since the room is one memory that the caller lends, and which parts it has is the definition's (specs/Layout of crate `room`).
 ghost use Rattle.std.specs.Prelude.{◌≡◌, min};
 ghost use Rattle.keys.specs.Chains.{BeginsChain, HasNumber, NextWith};
 ghost use Rattle.keys.specs.Keys.{NextClause, NextCandidate};
 
+use crate::atom::Both;
 use crate::chain::chain_of;
-use crate::term::word;
+use room::word;
 
 // One in the chain of a number with none of that chain between it and a given one: the one after the given one's predecessor, if that is in the chain, else the chain's first.
 fn begin(room: &[u32], numbers: u32, links: u32, x: u32, from: u32) -> u32
@@ -61,12 +63,12 @@ pub fn next_candidate(room: &[u32], x: u32, from: u32, n: u32) -> u32
 fn lesser(x: u32, n: usize) -> u32
     ensures { result ≡ min x n }
 {
-    if n < x as usize { n as u32 } else { x }
+    n.min(x as usize) as u32
 }
 
 // The first clause from one on, of n, that may serve an atom with these numbers, of its predicate and of its own: a rule by its number, and each that is supposed. n if there is none.
-pub fn next_clause(room: &[u32], predicate: u32, key: u32, from: usize, n: usize) -> usize
-    ensures { NextClause room.now predicate key from n result }
+pub fn next_clause(room: &[u32], of: Both, from: usize, n: usize) -> usize
+    ensures { NextClause room.now of.predicate of.key from n result }
 {
     if n <= from {
         return n;
@@ -76,7 +78,7 @@ pub fn next_clause(room: &[u32], predicate: u32, key: u32, from: usize, n: usize
         return from;
     }
     let f = from as u32;
-    let a = next_with(room, 3200, 4224, key, f, lesser(rules, n));
-    let b = next_with(room, 3200, 4224, predicate, f, a);
+    let a = next_with(room, 3200, 4224, of.key, f, lesser(rules, n));
+    let b = next_with(room, 3200, 4224, of.predicate, f, a);
     next_with(room, 3200, 4224, 0, f, b) as usize
 }

@@ -1,20 +1,19 @@
 // The number of a rule: that of its head, if it has one head; of the whole head where it holds no variable, else of its predicate. A rule with an `and` on the way to its heads has number 0, which is no atom's.
+// Kept: the bytes, the offset and what is left of the nesting stay parameters of their own; offset and nesting are others at each call.
 ghost use Rattle.std.specs.Prelude.{◌≡◌};
 ghost use Rattle.room.specs.Spot as spots;
-ghost use Rattle.room.specs.Where.{files_of};
 ghost use Rattle.keys.specs.Walk.{HasVariable, HaveVariable, HeadAt, ImpAt, ClauseAt};
 ghost use Rattle.keys.specs.Keys.{RuleKeyAt};
 
 use crate::atom::{atom_of, predicate_of};
-use crate::term::from;
 use packet::Word;
 use reader::word_at;
-use room::{Source, Spot, part};
-use sexp::{After, closes, is_word, past};
+use room::{Files, Source, Spot, from};
+use sexp::{closes, is_word, past};
 
 // Whether the term at an offset holds a variable, where it nests at most `nest`.
-#[cycle(has_variable_have_variable)]
-fn has_variable<'a>(s: &'a [u8], at: usize, nest: usize) -> bool
+#[cycle(variable)]
+fn has_variable(s: &[u8], at: usize, nest: usize) -> bool
     ensures { HasVariable s.now at nest result }
 {
     if nest == 0 {
@@ -25,14 +24,14 @@ fn has_variable<'a>(s: &'a [u8], at: usize, nest: usize) -> bool
         return true;
     }
     match past(t, 4, 0) {
-        After::Nothing => false,
-        After::Next(n) => have_variable(t, n, nest - 1),
+        None => false,
+        Some(n) => have_variable(t, n, nest - 1),
     }
 }
 
 // The same of terms one after the other, up to the closing parenthesis.
-#[cycle(has_variable_have_variable)]
-fn have_variable<'a>(s: &'a [u8], at: usize, nest: usize) -> bool
+#[cycle(variable)]
+fn have_variable(s: &[u8], at: usize, nest: usize) -> bool
     ensures { HaveVariable s.now at nest result }
 {
     let mut p = at;
@@ -40,7 +39,7 @@ fn have_variable<'a>(s: &'a [u8], at: usize, nest: usize) -> bool
         if has_variable(s, p, nest) {
             return true;
         }
-        let After::Next(n) = past(s, p, 64) else {
+        let Some(n) = past(s, p, 64) else {
             return false;
         };
         p = n;
@@ -64,7 +63,7 @@ pub(crate) fn nowhere() -> Spot
 fn head_key(t: &[u8], room: &[u32]) -> u32
     ensures { HeadAt t.now result }
 {
-    let After::Next(n) = past(t, 7, 0) else {
+    let Some(n) = past(t, 7, 0) else {
         return 0;
     };
     if have_variable(t, n, 64) {
@@ -74,17 +73,18 @@ fn head_key(t: &[u8], room: &[u32]) -> u32
 }
 
 // The number of the head of a goal that implies an atom.
-fn behind_imp<'a>(t: &'a [u8], room: &[u32]) -> u32
+fn behind_imp(t: &[u8], room: &[u32]) -> u32
     ensures { ImpAt t.now result }
 {
-    let After::Next(n) = past(t, 6, 64) else {
+    let Some(n) = past(t, 6, 64) else {
         return 0;
     };
     head_key(from(t, n), room)
 }
 
 // The number of the clause at an offset that nests at most `nest`.
-pub(crate) fn clause_key<'a>(s: &'a [u8], at: usize, room: &[u32], nest: usize) -> u32
+// Kept: 0 for a clause with no number of its own is the word that the room holds of it.
+pub(crate) fn clause_key(s: &[u8], at: usize, room: &[u32], nest: usize) -> u32
     ensures { ClauseAt s.now at nest result }
 {
     if nest == 0 {
@@ -101,10 +101,9 @@ pub(crate) fn clause_key<'a>(s: &'a [u8], at: usize, room: &[u32], nest: usize) 
 }
 
 // The number of the clause at a spot.
-pub fn rule_key<'a>(rules: &'a [u8], goal: &'a [u8], terms: &'a [u8], room: &[u32], x: Spot) -> u32
-    ensures { RuleKeyAt (files_of rules.now goal.now terms.now) x result }
+pub fn rule_key(files: &Files, room: &[u32], x: Spot) -> u32
+    ensures { RuleKeyAt files.now x result }
 {
-    let source = x.source;
-    let s = part(rules, goal, terms, source, 0);
+    let s = files.file(x.source);
     clause_key(s, x.at, room, 64)
 }

@@ -4,22 +4,14 @@ ghost use Rattle.keys.specs.Keys.{CandidatesKept, RulesKept, KeysFilled};
 
 use crate::chain::fill_chains;
 use crate::rule::{clause_key, nowhere};
-use crate::term::{key_at, word};
+use crate::term::key_at;
+use room::{put, word};
 
 // How many of a table are kept: at most 256.
 pub(crate) fn most(n: u32) -> usize
     ensures { result ≡ min n 256 }
 {
-    if n < 256 { n as usize } else { 256 }
-}
-
-// A word written, if there is room.
-pub(crate) fn put(room: &mut [u32], i: usize, w: u32)
-    ensures { room.new ≡ set room.old i w }
-{
-    if i < room.len() {
-        room[i] = w;
-    }
+    n.min(256) as usize
 }
 
 // The numbers of candidates.
@@ -27,26 +19,23 @@ fn keep_candidates(terms: &[u8], room: &mut [u32])
     ensures { CandidatesKept room.old room.new terms.now }
 {
     let n = most(word(room, 257));
-    let mut i = 0;
-    while i < n {
+    for i in 0..n {
         let at = word(room, 258 + i) as usize;
         let k = key_at(terms, at, room, nowhere(), 64);
         put(room, 3456 + i, k);
-        i += 1;
     }
 }
 
 // The numbers of rules.
+// Kept: it differs from that of candidates in the function called for each, and its table of words; one function of both would take a closure that reads the room and be no plainer.
 fn keep_rules(rules: &[u8], room: &mut [u32])
     ensures { RulesKept room.old room.new rules.now }
 {
     let n = most(word(room, 0));
-    let mut i = 0;
-    while i < n {
+    for i in 0..n {
         let at = word(room, 1 + i) as usize;
         let k = clause_key(rules, at, room, 64);
         put(room, 3200 + i, k);
-        i += 1;
     }
 }
 

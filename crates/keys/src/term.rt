@@ -1,33 +1,20 @@
 // The number of a term under its bindings. A variable takes the number that is kept for the candidate that it is bound to, so candidates are never gone into; what is left of the nesting falls.
+// Kept: the bytes, the offset and what is left of the nesting stay parameters of their own; offset and nesting are others at each call.
 ghost use Rattle.std.specs.Prelude.{◌≡◌, get_or, drop};
-ghost use Rattle.room.specs.Where.{files_of};
 ghost use Rattle.keys.specs.Walk.{candidate_key, binding_key, VariableAt, ParameterAt, BeginsAt, TermAtKey, TermsAtKey};
 ghost use Rattle.keys.specs.Keys.{TermKeyAt};
 
-use crate::mix::{hold, mix, text_key};
+use crate::mix::{mix, text_key};
 use harrop::Binding;
-use room::{Source, Spot, part, variable};
-use sexp::{After, Value, closes, is_word, number, past};
+use room::{Files, Spot, from, hold, variable, word};
+use sexp::{closes, is_word, number, past};
 
 // How a term begins: its number is known at once, or terms follow at an offset and are mixed into a number.
+// Kept: either kind is an answer with a value, and none of them a failure.
 #[derive(Clone, Copy)]
 pub(crate) enum Begun {
     Key(u32),
     Terms(usize, u32),
-}
-
-// A word of the room; past its end, 0.
-pub(crate) fn word(room: &[u32], i: usize) -> u32
-    ensures { result ≡ get_or room.now i 0 }
-{
-    if i < room.len() { room[i] } else { 0 }
-}
-
-// The part of a file from an offset on.
-pub(crate) fn from<'a>(s: &'a [u8], at: usize) -> &'a [u8]
-    ensures { result.now ≡ drop at s.now }
-{
-    part(s, s, s, Source::Terms, at)
 }
 
 // The number kept for a candidate; for one that is not listed, that of `e` 0.
@@ -55,8 +42,8 @@ fn variable_key(t: &[u8], room: &[u32], x: Spot) -> u32
     ensures { VariableAt t.now room.now x result }
 {
     match number(t, 4) {
-        Value::Nothing => 0,
-        Value::Is(i) => binding_key(room, variable(room, x.base, x.count, i)),
+        None => 0,
+        Some(i) => binding_key(room, variable(room, x.base, x.count, i)),
     }
 }
 
@@ -65,8 +52,8 @@ fn parameter_key(t: &[u8]) -> u32
     ensures { ParameterAt t.now result }
 {
     match number(t, 4) {
-        Value::Nothing => 0,
-        Value::Is(k) => mix(5, hold(k)),
+        None => 0,
+        Some(k) => mix(5, hold(k)),
     }
 }
 
@@ -81,14 +68,14 @@ fn begins(t: &[u8], room: &[u32], x: Spot) -> Begun
         return Begun::Key(parameter_key(t));
     }
     match past(t, 4, 0) {
-        After::Nothing => Begun::Key(0),
-        After::Next(n) => Begun::Terms(n, text_key(t, 4)),
+        None => Begun::Key(0),
+        Some(n) => Begun::Terms(n, text_key(t, 4)),
     }
 }
 
 // The number of the term at an offset that nests at most `nest`, its variables bound in the frame of a spot.
-#[cycle(key_at_keys_at)]
-pub(crate) fn key_at<'a>(s: &'a [u8], at: usize, room: &[u32], x: Spot, nest: usize) -> u32
+#[cycle(key)]
+pub(crate) fn key_at(s: &[u8], at: usize, room: &[u32], x: Spot, nest: usize) -> u32
     ensures { TermAtKey s.now at room.now x nest result }
 {
     if nest == 0 {
@@ -102,15 +89,15 @@ pub(crate) fn key_at<'a>(s: &'a [u8], at: usize, room: &[u32], x: Spot, nest: us
 }
 
 // A number with those of terms mixed into it, one after the other, up to the closing parenthesis.
-#[cycle(key_at_keys_at)]
-pub(crate) fn keys_at<'a>(s: &'a [u8], at: usize, room: &[u32], x: Spot, h: u32, nest: usize) -> u32
+#[cycle(key)]
+pub(crate) fn keys_at(s: &[u8], at: usize, room: &[u32], x: Spot, h: u32, nest: usize) -> u32
     ensures { TermsAtKey s.now at room.now x h nest result }
 {
     let mut p = at;
     let mut k = h;
     while !closes(s, p) {
         k = mix(k, key_at(s, p, room, x, nest));
-        let After::Next(n) = past(s, p, 64) else {
+        let Some(n) = past(s, p, 64) else {
             return 0;
         };
         p = n;
@@ -119,10 +106,9 @@ pub(crate) fn keys_at<'a>(s: &'a [u8], at: usize, room: &[u32], x: Spot, h: u32,
 }
 
 // The number of the term at a spot, its variables replaced.
-pub fn term_key<'a>(rules: &'a [u8], goal: &'a [u8], terms: &'a [u8], room: &[u32], x: Spot) -> u32
-    ensures { TermKeyAt (files_of rules.now goal.now terms.now) room.now x result }
+pub fn term_key(files: &Files, room: &[u32], x: Spot) -> u32
+    ensures { TermKeyAt files.now room.now x result }
 {
-    let source = x.source;
-    let s = part(rules, goal, terms, source, 0);
+    let s = files.file(x.source);
     key_at(s, x.at, room, x, 64)
 }

@@ -18,13 +18,14 @@ use Rattle.sexp.proofs.StandLaws.{stands-before}
 use Rattle.packet.specs.Written.{atom_sexp, clause_sexp}
 use Rattle.packet.specs.File.{most_bytes}
 use Rattle.room.specs.Layout.{words, levels, rule_word}
-use Rattle.room.specs.Where.{files_of, Booked}
+use Rattle.room.specs.Where.{Booked}
+use Rattle.room.specs.Files.{files_of}
 use Rattle.room.proofs.FrameLaws.{held_same}
 use Rattle.keys.specs.Keys.{PredicateKeyAt}
 use Rattle.keys.proofs.ChainLaws.{within_none, within_more}
 use Rattle.narrow.specs.Heads.{head_of, in_rules, predicate_word, head_word, heads_end, HeadIn, HeadsIn, HeadIs, HeadAt, PredicateOf, place_of, HeadsDone, HeadsFilled}
-use Rattle.narrow.specs.declared.rule.Head.{Head}
-use Rattle.narrow.specs.declared.rule.Head.TheVariants as H
+use Rattle.std.specs.Prelude.{Some, None}
+use Rattle.std.specs.Prelude as Std
 
 -- a head nests no deeper than its clause
 pub head-nests : (d : Clause Plain) (b : Atom) → head_of d ≡ some b → nesting (atom_sexp b) ≤ nesting (clause_sexp d)
@@ -34,12 +35,12 @@ head-nests (Clause.all_d q d) b e = omega (arith, head-nests d b e)
 head-nests (Clause.and_d c d) b e = nope e
 
 -- what is kept of a head
-module _ (s : List ℕ) {h : Head} where
-  pub no-predicate : h ≡ H.Nothing → PredicateOf s h 0
-  no-predicate e = subst (λ (z : Head). PredicateOf s z 0) (sym e) refl
+module _ (s : List ℕ) {h : Std.Option ℕ} where
+  pub no-predicate : h ≡ None → PredicateOf s h 0
+  no-predicate e = subst (λ (z : Std.Option ℕ). PredicateOf s z 0) (sym e) refl
 
-  pub predicate-there : {i r : ℕ} → h ≡ H.At i → PredicateKeyAt (files_of s s s) (in_rules i) r → PredicateOf s h r
-  predicate-there {r = r} e P = subst (λ (z : Head). PredicateOf s z r) (sym e) (λ b g l. P b (record { stands = g; shallow = l }))
+  pub predicate-there : {i r : ℕ} → h ≡ Some i → PredicateKeyAt (files_of s s s) (in_rules i) r → PredicateOf s h r
+  predicate-there {r = r} e P = subst (λ (z : Std.Option ℕ). PredicateOf s z r) (sym e) (λ b g l. P b (record { stands = g; shallow = l }))
 
 -- a table with the same words says the same
 alike : (rules r s : List ℕ) (k : ℕ) → get_or r (predicate_word k) 0 ≡ get_or s (predicate_word k) 0 → get_or r (head_word k) 0 ≡ get_or s (head_word k) 0 → (o : Option Atom) → HeadIn s rules k o → HeadIn r rules k o
@@ -70,12 +71,12 @@ module _ (rules now : List ℕ) (i p q : ℕ) (l : i < 256) where
     place : get_or written (head_word i) 0 ≡ q
     place = get_or-set_same (set now (3712 + i) p) (3968 + i) q 0 (omega (arith, length-set now (3712 + i) p, l, long))
 
-    newest : (h : Head) (o : Option Atom) → PredicateOf rules h p → q ≡ place_of h → ((b : Atom) → o ≡ some b → nesting (atom_sexp b) ≤ levels) → HeadIs rules h o → HeadIn written rules i o
+    newest : (h : Std.Option ℕ) (o : Option Atom) → PredicateOf rules h p → q ≡ place_of h → ((b : Atom) → o ≡ some b → nesting (atom_sexp b) ≤ levels) → HeadIs rules h o → HeadIn written rules i o
     unfolding place_of
-    newest H.Nothing none P Q n t = number ∙ P
-    newest H.Nothing (some b) P Q n t = absurd t
-    newest (H.At x) none P Q n t = absurd t
-    newest (H.At x) (some b) P Q n t =
+    newest None none P Q n t = number ∙ P
+    newest None (some b) P Q n t = absurd t
+    newest (Some x) none P Q n t = absurd t
+    newest (Some x) (some b) P Q n t =
         let inside = stands-before t in
         (number ∙ P b t (n b refl), subst (λ (j : ℕ). Stands rules j (atom_sexp b)) (sym (place ∙ Q ∙ held_same x (omega arith))) t)
 
@@ -83,7 +84,7 @@ module _ (rules now : List ℕ) (i p q : ℕ) (l : i < 256) where
 pub heads-none : (before rules : List ℕ) → HeadsDone before before rules 0
 heads-none before rules = record { within = within_none before (predicate_word 0) heads_end; right = λ r z k l d g n. absurd (omega arith) }
 
-pub heads-more : (before rules : List ℕ) {now mid after : List ℕ} {i : ℕ} (h : Head) (a p q : ℕ) → HeadsDone before now rules i → i < 256 → a ≡ get_or now (1 + i) 0 → HeadAt rules a 64 h → PredicateOf rules h p → q ≡ place_of h
+pub heads-more : (before rules : List ℕ) {now mid after : List ℕ} {i : ℕ} (h : Std.Option ℕ) (a p q : ℕ) → HeadsDone before now rules i → i < 256 → a ≡ get_or now (1 + i) 0 → HeadAt rules a 64 h → PredicateOf rules h p → q ≡ place_of h
     → mid ≡ set now (3712 + i) p → after ≡ set mid (3968 + i) q → HeadsDone before after rules (i + 1)
 heads-more before rules {now} {mid} {after} {i} h a p q D l e G P Q f g = subst (λ (r : List ℕ). HeadsDone before r rules (i + 1)) (sym (g ∙ ap (λ (r : List ℕ). set r (3968 + i) q) f)) (record {
   within = within_more before (set now (3712 + i) p) (predicate_word 0) heads_end (3968 + i) q (within_more before now (predicate_word 0) heads_end (3712 + i) p D.within (omega arith) (omega (arith, l))) (omega arith) (omega (arith, l));

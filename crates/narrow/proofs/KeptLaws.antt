@@ -16,15 +16,13 @@ use Rattle.harrop.proofs.ListLaws.{member_below}
 use Rattle.sexp.specs.Sexp.{Stands}
 use Rattle.packet.specs.Written.{atom_sexp}
 use Rattle.packet.specs.File.{most_bytes}
-use Rattle.room.specs.Layout.{words, stack}
+use Rattle.room.specs.Layout.{stack}
 use Rattle.room.specs.Frame.{bindings_in}
-use Rattle.room.specs.Spot.{file_of}
-use Rattle.room.specs.Where.{files_of, Booked, Live, Kept}
+use Rattle.room.specs.Files.{files_of}
+use Rattle.room.specs.Where.{Booked, Live, Kept}
 use Rattle.room.specs.declared.Source.{Source}
-use Rattle.room.specs.declared.Source.TheVariants as Source
 use Rattle.room.specs.declared.Spot.{Spot}
 use Rattle.room.proofs.WhereLaws.{booked-kept}
-use Rattle.equal.specs.Term.{AtomAt}
 use Rattle.keys.specs.Walk.{kept_word}
 use Rattle.keys.specs.Keys.{KeysIn, key_word, candidate_chains}
 use Rattle.keys.proofs.ChainLaws.{within_none, within_more}

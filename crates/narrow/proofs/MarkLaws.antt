@@ -14,7 +14,7 @@ use Rattle.harrop.specs.Bindings.{Bindings, meant, replaced_atom, same_atom}
 use Rattle.harrop.proofs.ListLaws.{below-member}
 use Rattle.harrop.proofs.SameLaws.{equal-atoms-same}
 use Rattle.room.specs.Spot.{bindings_at}
-use Rattle.room.specs.Where.{Files}
+use Rattle.room.specs.Files.{Files}
 use Rattle.room.specs.declared.Spot.{Spot}
 use Rattle.keys.proofs.WalkLaws.{candidate-meant}
 use Rattle.unset.specs.declared.Forced.{Forced}

@@ -2,25 +2,23 @@
 use Prim.Native.Nat.{ℕ, ◌+◌, ◌-◌, ◌%◌, ◌≤◌, ◌<◌}
 use native.Mathlib.Omega.{arith}
 use mathlib.Core.Path.{◌≡◌, refl, sym, ◌∙◌, ap, subst}
-use mathlib.Core.Bool.{Bool, true, false, not, false≢true}
+use mathlib.Core.Bool.{Bool, true, false, not}
 use mathlib.Core.List.{List, []}
 use mathlib.Core.Option.{Option, none, some}
-use lib.Dec.{ltb}
 use lib.ListN.{length, get_or, get_elem?, drop}
-use borrow.Author.Tests.{ltb-true, ltb-false, not-true}
+use borrow.Author.Tests.{not-true}
 use Rattle.harrop.specs.Formula.{Term, Atom, Clause}
 use Rattle.harrop.specs.Bindings.{Bindings, replaced_atom, same_atom}
 use Rattle.harrop.specs.Place.{AtHand, Hand, Plain}
-use Rattle.harrop.proofs.ListLaws.{member_below}
 use Rattle.packet.specs.declared.Word.{Word}
 use Rattle.packet.specs.declared.Word.TheVariants as W
 use Rattle.packet.specs.Barred.{atom_ok, clause_ok}
 use Rattle.reader.specs.WordAt.{WordAt}
 use Rattle.packet.specs.Written.{clause_sexp}
-use Rattle.room.specs.Layout.{rules_word}
 use Rattle.room.specs.Spot.{bindings_at, supposed_in}
 use Rattle.equal.specs.Term.{AtomAt}
-use Rattle.room.specs.Where.{Files, Framed, HandIn}
+use Rattle.room.specs.Where.{Framed, HandIn}
+use Rattle.room.specs.Files.{Files}
 use Rattle.room.specs.declared.Spot.{Spot}
 use Rattle.room.proofs.FrameLaws.{frame-length}
 use Rattle.room.proofs.WhereLaws.{file-small}
@@ -30,13 +28,13 @@ use Rattle.keys.specs.Keys.{PredicateKeyAt}
 use Rattle.arguments.specs.Arguments.{ArgumentsAre}
 use Rattle.narrow.specs.Heads.{head_of, HeadIn}
 use Rattle.narrow.specs.Kept.{no_variable, Says}
-use Rattle.narrow.specs.Narrow.{NoHead, Gives, Known, ByHead, ByFact, ByRule, ByOne, ByClause, More, Adds, rule_spot}
+use Rattle.narrow.specs.Narrow.{NoHead, Gives, Known, ByHead, ByFact, ByRule, ByOne, ByClause, Adds, rule_spot}
 use Rattle.narrow.proofs.FillLaws.{head-nests}
 use Rattle.narrow.proofs.KeptLaws.{no-frame}
 use Rattle.narrow.proofs.NoHeadLaws.{headless, one-head, other-number, no-variables, head_ok, one-fact}
-use Rattle.narrow.proofs.MarkLaws.{more-none, more-then, gives_more}
+use Rattle.narrow.proofs.MarkLaws.{more-none}
 
-atom-there : {f : Files} {x : Spot} {a : Atom} → AtomAt f.rules f.goal f.terms x a → AtomThere f x a
+atom-there : {f : Files} {x : Spot} {a : Atom} → AtomAt f x a → AtomThere f x a
 atom-there X = record { stands = X.stands; shallow = X.shallow }
 
 -- rule k
@@ -71,7 +69,7 @@ module _ (f : Files) (room : List ℕ) (x : Spot) (own v predicate asked k : ℕ
         go t ds us a N Q d m i es G none z h = absurd (some_key (e ∙ h))
         go t ds us a N Q d m i es G (some b) z h =
             let closed = no-variables d b z (λ q. odd (ap (λ (n : ℕ). n % 2) (g ∙ N.keys.rules k d m) ∙ q)) in
-            let Y : AtomAt f.rules f.goal f.terms (rule_spot room (3968 + k)) b = record {
+            let Y : AtomAt f (rule_spot room (3968 + k)) b = record {
               stands = h.1;
               shallow = omega (arith, head-nests d b z, N.booked.shallow k d m);
               few = omega arith;
@@ -97,8 +95,8 @@ module _ (f : Files) (room : List ℕ) (x : Spot) (own v j : ℕ) (marks : List 
   }
 
   -- it is an atom, in a frame that is set
-  atom-at : {top : ℕ} {bs : Bindings} (b : Atom) {d : Clause Plain} → d ≡ Clause.atom_d b → Framed f room y top (clause_sexp d) bs → clause_ok (length bs) d ≡ true → AtomAt f.rules f.goal f.terms y b
-  atom-at {top} {bs} b z = subst (λ (d : Clause Plain). Framed f room y top (clause_sexp d) bs → clause_ok (length bs) d ≡ true → AtomAt f.rules f.goal f.terms y b) (sym z) λ F o. record {
+  atom-at : {top : ℕ} {bs : Bindings} (b : Atom) {d : Clause Plain} → d ≡ Clause.atom_d b → Framed f room y top (clause_sexp d) bs → clause_ok (length bs) d ≡ true → AtomAt f y b
+  atom-at {top} {bs} b z = subst (λ (d : Clause Plain). Framed f room y top (clause_sexp d) bs → clause_ok (length bs) d ≡ true → AtomAt f y b) (sym z) λ F o. record {
     stands = F.stands;
     shallow = omega (arith, F.shallow);
     few = omega (arith, F.shallow);

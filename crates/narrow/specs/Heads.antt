@@ -1,5 +1,7 @@
 -- The one head of a clause, and the table of rules' heads in the room (document 02, Three): the number of a head's predicate in 256 words, where the head starts in the 256 words after them. They begin where the numbers of crate keys end.
 use Rattle.std.specs.Prelude.{ℕ, ◌+◌, ◌≤◌, ◌<◌, ◌≡◌, List, length, get_or}
+use Rattle.std.specs.Prelude.{Some, None}
+use Rattle.std.specs.Prelude as Std
 use Rattle.std.proofs.Math.Option.{Option, none, some}
 use Rattle.std.proofs.Math.ListN.{get_elem?}
 use Rattle.harrop.specs.Formula.{Term, Atom, Clause}
@@ -9,13 +11,12 @@ use Rattle.packet.specs.Written.{atom_sexp, clause_sexp}
 use Rattle.packet.specs.File.{most_bytes}
 use Rattle.room.specs.Layout.{words, levels, rule_word}
 use Rattle.room.specs.Frame.{held}
-use Rattle.room.specs.Where.{files_of, Booked}
+use Rattle.room.specs.Where.{Booked}
+use Rattle.room.specs.Files.{files_of}
 use Rattle.room.specs.declared.Source.TheVariants as Source
 use Rattle.room.specs.declared.Spot.{Spot}
 use Rattle.keys.specs.Key.{predicate_key}
 use Rattle.keys.specs.Chains.{Within}
-use Rattle.narrow.specs.declared.rule.Head.{Head}
-use Rattle.narrow.specs.declared.rule.Head.TheVariants as H
 
 -- the head of a clause; none where an `and` is on the way to its heads
 abbrev pub head_of : Clause Plain → Option Atom
@@ -48,24 +49,24 @@ abbrev pub HeadsIn : List ℕ → List ℕ → List (Clause Plain) → Type 0
 HeadsIn room rules ds = (k : ℕ) (d : Clause Plain) → get_elem? ds k ≡ some d → HeadIn room rules k (head_of d)
 
 -- the answer is where the head of the clause at an offset stands that nests at most so deep
-abbrev pub HeadIs : List ℕ → Head → Option Atom → Type 0
-HeadIs s H.Nothing none = Unit {0}
-HeadIs s H.Nothing (some b) = ⊥
-HeadIs s (H.At i) none = ⊥
-HeadIs s (H.At i) (some b) = Stands s i (atom_sexp b)
+abbrev pub HeadIs : List ℕ → Std.Option ℕ → Option Atom → Type 0
+HeadIs s None none = Unit {0}
+HeadIs s None (some b) = ⊥
+HeadIs s (Some i) none = ⊥
+HeadIs s (Some i) (some b) = Stands s i (atom_sexp b)
 
-abbrev pub HeadAt : List ℕ → ℕ → ℕ → Head → Type 0
+abbrev pub HeadAt : List ℕ → ℕ → ℕ → Std.Option ℕ → Type 0
 HeadAt s at nest r =
     (d : Clause Plain) → Stands s at (clause_sexp d) → nesting (clause_sexp d) ≤ levels → nesting (clause_sexp d) ≤ nest → length s ≤ most_bytes → HeadIs s r (head_of d)
 
 -- what is kept of a head: the number of its predicate, and where it stands
-abbrev pub PredicateOf : List ℕ → Head → ℕ → Type 0
-PredicateOf s H.Nothing r = r ≡ 0
-PredicateOf s (H.At i) r = (b : Atom) → Stands s i (atom_sexp b) → nesting (atom_sexp b) ≤ levels → r ≡ predicate_key b
+abbrev pub PredicateOf : List ℕ → Std.Option ℕ → ℕ → Type 0
+PredicateOf s None r = r ≡ 0
+PredicateOf s (Some i) r = (b : Atom) → Stands s i (atom_sexp b) → nesting (atom_sexp b) ≤ levels → r ≡ predicate_key b
 
-unfoldable pub place_of : Head → ℕ
-place_of H.Nothing = 0
-place_of (H.At i) = held i
+unfoldable pub place_of : Std.Option ℕ → ℕ
+place_of None = 0
+place_of (Some i) = held i
 
 -- the heads of the first n rules are in the room
 pub record HeadsDone (before after rules : List ℕ) (n : ℕ) : Type 0 where

@@ -6,7 +6,8 @@ use Rattle.harrop.specs.Formula.{Term, Atom, Clause}
 use Rattle.harrop.specs.Place.{Plain}
 use Rattle.room.specs.Layout.{words}
 use Rattle.room.specs.Table.{CandidatesIn}
-use Rattle.room.specs.Where.{files_of, Booked}
+use Rattle.room.specs.Where.{Booked}
+use Rattle.room.specs.Files.{files_of}
 use Rattle.equal.specs.Term.{AtomAt}
 use Rattle.keys.specs.Chains.{Within}
 use Rattle.keys.specs.Keys.{CandidateKeys, KeysIn}
@@ -36,7 +37,7 @@ ArgumentsIn room ds us = (k : ℕ) (d : Clause Plain) → get_elem? ds k ≡ som
 -- the word of a rule's head, by its number and its place: the number is odd, that of a head without variables, if it is not 0; and it says what the head's arguments are
 pub record ArgumentsOf (rules terms room : List ℕ) (key at r : ℕ) : Type 0 where
   pub closed : (r ≡ 0 → ⊥) → key % 2 ≡ 0 → ⊥
-  pub right : (us : List Term) (b : Atom) → Small (files_of rules rules terms) → CandidatesIn room terms us → CandidateKeys room us → AtomAt rules rules terms (in_rules at) b → Says us b r
+  pub right : (us : List Term) (b : Atom) → Small (files_of rules rules terms) → CandidatesIn room terms us → CandidateKeys room us → AtomAt (files_of rules rules terms) (in_rules at) b → Says us b r
 
 -- those of the first n rules are in the room
 pub record ArgumentsDone (before after rules terms : List ℕ) (n : ℕ) : Type 0 where

@@ -11,7 +11,8 @@ use Rattle.harrop.specs.Place.{AtHand, Hand, Plain}
 use Rattle.room.specs.Spot.{bindings_at}
 use Rattle.room.specs.Table.{CandidatesIn}
 use Rattle.equal.specs.Term.{AtomAt}
-use Rattle.room.specs.Where.{Files, HandIn, Booked}
+use Rattle.room.specs.Where.{HandIn, Booked}
+use Rattle.room.specs.Files.{Files}
 use Rattle.room.specs.declared.Spot.{Spot}
 use Rattle.mentions.specs.Open.{Becomes}
 use Rattle.keys.specs.Keys.{KeysIn, CandidateKeys, PredicateKeyAt}
@@ -50,7 +51,7 @@ pub record Known (f : Files) (room : List ℕ) (ds : List (Clause Plain)) (us : 
   pub keys : KeysIn room ds us
   pub heads : HeadsIn room f.rules ds
   pub arguments : ArgumentsIn room ds us
-  pub atom : AtomAt f.rules f.goal f.terms x a
+  pub atom : AtomAt f x a
 
 -- no mark is taken back
 pub record More (before after : List ℕ) : Type 0 where
@@ -65,13 +66,13 @@ pub record Adds (before after : List ℕ) (r : Bool) (says : Type 0) : Type 0 wh
 -- by one head, at a second spot, in a frame that is set
 abbrev pub ByHead : Files → List ℕ → Spot → Spot → ℕ → ℕ → List ℕ → Type 0
 ByHead f room x y own v marks =
-    (us : List Term) (a b : Atom) → Small f → CandidatesIn room f.terms us → CandidateKeys room us → AtomAt f.rules f.goal f.terms x a → AtomAt f.rules f.goal f.terms y b
+    (us : List Term) (a b : Atom) → Small f → CandidatesIn room f.terms us → CandidateKeys room us → AtomAt f x a → AtomAt f y b
     → (i : ℕ) (es : Bindings) → Gives room us x own v marks i es → same_atom (replaced_atom us (bindings_at room y) b) (replaced_atom us es a) ≡ false
 
 -- by one head, and by the words of the atom's arguments and of the head's
 abbrev pub ByFact : Files → List ℕ → Spot → Spot → ℕ → ℕ → ℕ → ℕ → List ℕ → Type 0
 ByFact f room x y own v asked kept marks =
-    (us : List Term) (a b : Atom) → Small f → CandidatesIn room f.terms us → CandidateKeys room us → AtomAt f.rules f.goal f.terms x a → AtomAt f.rules f.goal f.terms y b
+    (us : List Term) (a b : Atom) → Small f → CandidatesIn room f.terms us → CandidateKeys room us → AtomAt f x a → AtomAt f y b
     → ArgumentsAre us own (bindings_at room x) v a asked → ArgumentsAre us 0 (bindings_at room y) no_variable b kept
     → (i : ℕ) (es : Bindings) → Gives room us x own v marks i es → same_atom (replaced_atom us (bindings_at room y) b) (replaced_atom us es a) ≡ false
 

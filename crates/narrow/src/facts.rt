@@ -1,35 +1,34 @@
 // The candidates that the heads at hand force on a variable of an atom (document 02, Three). Where a head with the atom's predicate has variables, or forces nothing, nothing is said of them.
+// Kept: files, room and spot stay parameters of their own; the spots are others at each call, and a struct of them would be made anew there.
 ghost use Rattle.std.specs.Prelude.{◌≡◌};
-ghost use Rattle.room.specs.Where.{files_of};
 ghost use Rattle.narrow.specs.Narrow.{Adds, ByHead, ByFact, ByRule, ByOne, ByClause, rule_spot};
 
 use crate::marks::mark;
-use crate::table::word;
 use arguments::between;
 use heads::has_head;
 use packet::Word;
 use places::word_there;
-use room::{Source, Spot, supposed};
+use room::{Files, Source, Spot, supposed, word};
 use unset::{Forced, forced_by, may_be};
 
-// By the head at the second spot, in whose frame every variable is set: the candidate that it forces on the variable is marked. No: it forces nothing, so any candidate may do.
-fn by_head<'a>(
-    rules: &'a [u8],
-    goal: &'a [u8],
-    terms: &'a [u8],
-    room: &[u32],
-    x: Spot,
-    y: Spot,
-    own: usize,
-    v: usize,
-    marks: &mut [u8],
-) -> bool
-    ensures { Adds marks.old marks.new result (ByHead (files_of rules.now goal.now terms.now) room.now x y own v marks.new) }
+// An atom, for one of whose variables candidates are sought: its spot, how many variables of the frame may be unset, the variable, and the numbers of its predicate and of its arguments.
+#[derive(Clone, Copy)]
+pub struct Sought {
+    pub atom: Spot,
+    pub own: usize,
+    pub variable: usize,
+    pub predicate: u32,
+    pub arguments: u32,
+}
+
+// By the head at a spot, in whose frame every variable is set: the candidate that it forces on the variable is marked. No: it forces nothing, so any candidate may do.
+fn by_head(files: &Files, room: &[u32], a: Sought, y: Spot, marks: &mut [u8]) -> bool
+    ensures { Adds marks.old marks.new result (ByHead files.now room.now a.atom y a.own a.variable marks.new) }
 {
-    if !may_be(rules, goal, terms, room, x, y, own) {
+    if !may_be(files, room, a.atom, y, a.own) {
         return true;
     }
-    match forced_by(rules, goal, terms, room, x, y, v) {
+    match forced_by(files, room, a.atom, y, a.variable) {
         Forced::Nothing => false,
         Forced::Never => true,
         Forced::Candidate(c) => {
@@ -40,36 +39,23 @@ fn by_head<'a>(
 }
 
 // The same by the words of both atoms' arguments, where there are such; by the bytes where these say nothing.
-fn by_fact<'a>(
-    rules: &'a [u8],
-    goal: &'a [u8],
-    terms: &'a [u8],
-    room: &[u32],
-    x: Spot,
-    y: Spot,
-    own: usize,
-    v: usize,
-    asked: u32,
-    kept: u32,
-    marks: &mut [u8],
-) -> bool
-    ensures { Adds marks.old marks.new result (ByFact (files_of rules.now goal.now terms.now) room.now x y own v asked kept marks.new) }
+fn by_fact(files: &Files, room: &[u32], a: Sought, y: Spot, kept: u32, marks: &mut [u8]) -> bool
+    ensures { Adds marks.old marks.new result (ByFact files.now room.now a.atom y a.own a.variable a.arguments kept marks.new) }
 {
-    if asked == 0 {
-        return by_head(rules, goal, terms, room, x, y, own, v, marks);
+    if a.arguments == 0 {
+        return by_head(files, room, a, y, marks);
     }
     if kept == 0 {
-        return by_head(rules, goal, terms, room, x, y, own, v, marks);
+        return by_head(files, room, a, y, marks);
     }
-    let c = between(asked, kept, 4);
-    if c == 0 {
-        return by_head(rules, goal, terms, room, x, y, own, v, marks);
+    match between(a.arguments, kept, 4) {
+        Forced::Nothing => by_head(files, room, a, y, marks),
+        Forced::Never => true,
+        Forced::Candidate(i) => {
+            mark(marks, i);
+            true
+        }
     }
-    if c == 1023 {
-        return true;
-    }
-    mark(marks, c - 1);
-    true
 }
 
 // The spot in the rule file at the offset that a word keeps.
@@ -86,28 +72,16 @@ fn rule_spot(room: &[u32], i: usize) -> Spot
 }
 
 // By rule k, where this is the number of the atom's predicate. No: an `and` is on the way to a head with that predicate, or the head has variables, or it forces nothing.
-fn by_rule<'a>(
-    rules: &'a [u8],
-    goal: &'a [u8],
-    terms: &'a [u8],
-    room: &[u32],
-    x: Spot,
-    own: usize,
-    v: usize,
-    predicate: u32,
-    asked: u32,
-    k: u32,
-    marks: &mut [u8],
-) -> bool
-    ensures { Adds marks.old marks.new result (ByRule (files_of rules.now goal.now terms.now) room.now x own v predicate asked marks.new k) }
+fn by_rule(files: &Files, room: &[u32], a: Sought, k: u32, marks: &mut [u8]) -> bool
+    ensures { Adds marks.old marks.new result (ByRule files.now room.now a.atom a.own a.variable a.predicate a.arguments marks.new k) }
 {
     let i = k as usize;
     let p = word(room, 3712 + i);
     if p == 0 {
         let y = rule_spot(room, 1 + i);
-        return !has_head(rules, goal, terms, y, x, 64);
+        return !has_head(files, y, a.atom, 64);
     }
-    if p != predicate {
+    if p != a.predicate {
         return true;
     }
     if word(room, 3200 + i) % 2 == 0 {
@@ -115,51 +89,27 @@ fn by_rule<'a>(
     }
     let y = rule_spot(room, 3968 + i);
     let kept = word(room, 4608 + i);
-    by_fact(rules, goal, terms, room, x, y, own, v, asked, kept, marks)
+    by_fact(files, room, a, y, kept, marks)
 }
 
 // By supposed clause j: one that is an atom is a head whose frame is set. No: any other has a head with the atom's predicate, or the atom forces nothing.
-fn by_one<'a>(
-    rules: &'a [u8],
-    goal: &'a [u8],
-    terms: &'a [u8],
-    room: &[u32],
-    x: Spot,
-    own: usize,
-    v: usize,
-    j: usize,
-    marks: &mut [u8],
-) -> bool
-    ensures { Adds marks.old marks.new result (ByOne (files_of rules.now goal.now terms.now) room.now x own v marks.new j) }
+fn by_one(files: &Files, room: &[u32], a: Sought, j: usize, marks: &mut [u8]) -> bool
+    ensures { Adds marks.old marks.new result (ByOne files.now room.now a.atom a.own a.variable marks.new j) }
 {
     let y = supposed(room, j);
-    match word_there(rules, goal, terms, y) {
-        Word::Atom => by_head(rules, goal, terms, room, x, y, own, v, marks),
-        _ => !has_head(rules, goal, terms, y, x, 64),
+    match word_there(files, y) {
+        Word::Atom => by_head(files, room, a, y, marks),
+        _ => !has_head(files, y, a.atom, 64),
     }
 }
 
 // By clause k at hand: a rule, or one of those that are supposed. No: nothing can be said of it by its heads.
-pub fn by_clause<'a>(
-    rules: &'a [u8],
-    goal: &'a [u8],
-    terms: &'a [u8],
-    room: &[u32],
-    x: Spot,
-    own: usize,
-    v: usize,
-    predicate: u32,
-    asked: u32,
-    k: usize,
-    marks: &mut [u8],
-) -> bool
-    ensures { Adds marks.old marks.new result (ByClause (files_of rules.now goal.now terms.now) room.now x own v predicate asked marks.new k) }
+pub fn by_clause(files: &Files, room: &[u32], a: Sought, k: usize, marks: &mut [u8]) -> bool
+    ensures { Adds marks.old marks.new result (ByClause files.now room.now a.atom a.own a.variable a.predicate a.arguments marks.new k) }
 {
     let n = word(room, 0) as usize;
     if k < n {
-        return by_rule(
-            rules, goal, terms, room, x, own, v, predicate, asked, k as u32, marks,
-        );
+        return by_rule(files, room, a, k as u32, marks);
     }
-    by_one(rules, goal, terms, room, x, own, v, k - n, marks)
+    by_one(files, room, a, k - n, marks)
 }

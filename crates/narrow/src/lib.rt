@@ -7,7 +7,7 @@ mod marks;
 mod rule;
 mod table;
 
-pub use facts::by_clause;
+pub use facts::{Sought, by_clause};
 pub use kept::fill_arguments;
 pub use marks::{spend, unmark_all};
 pub use table::fill_heads;

@@ -6,11 +6,7 @@ ghost use Rattle.narrow.specs.Narrow.{More};
 pub fn unmark_all(marks: &mut [u8])
     ensures { marks.new ≡ replicate (length marks.old) 0 }
 {
-    let mut i = 0;
-    while i < marks.len() {
-        marks[i] = 0;
-        i += 1;
-    }
+    marks.fill(0);
 }
 
 // A candidate marked, if there is a mark for it.
@@ -24,6 +20,7 @@ pub(crate) fn mark(marks: &mut [u8], i: u32)
 }
 
 // One more body is looked at for the marks: the byte behind those of candidates counts them. No: there were 32.
+// Kept: the count lies behind the marks in the memory that the caller lends, since nothing is allocated here.
 pub fn spend(marks: &mut [u8]) -> bool
     ensures { More marks.old marks.new }
 {

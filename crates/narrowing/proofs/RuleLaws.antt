@@ -1,5 +1,5 @@
 -- A clause whose head has a variable where the atom has v serves the atom only if its body has a proof, in which that variable is what v is (document 01, "When a strip fits": equality is of terms). So candidates that the body leaves out for the variable are left out for v.
-use Prim.Native.Nat.{ℕ, suc, ◌+◌, ◌-◌, ◌≤◌}
+use Prim.Native.Nat.{ℕ, suc, ◌-◌, ◌≤◌}
 use native.Mathlib.Omega.{arith}
 use mathlib.Core.Path.{◌≡◌, refl, sym, ◌∙◌, ap, subst}
 use mathlib.Core.Bool.{Bool, true, false, false≢true}
@@ -11,9 +11,10 @@ use Rattle.harrop.specs.Formula.{Term, Atom, Goal, Clause}
 use Rattle.harrop.specs.Bindings.{Bindings, replaced_atom, same_atom}
 use Rattle.harrop.specs.Place.{AtHand, Hand, Plain, listed}
 use Rattle.harrop.proofs.SameLaws.{same-atoms-equal, equal-atoms-same}
-use Rattle.sexp.specs.declared.words.Value.{Value}
-use Rattle.sexp.specs.declared.words.Value.TheVariants as Val
-use Rattle.room.specs.Where.{Files, plus}
+use Rattle.std.specs.Prelude as std
+use Rattle.std.specs.Prelude.{Some, None}
+use Rattle.room.specs.Where.{plus}
+use Rattle.room.specs.Files.{Files}
 use Rattle.room.specs.declared.Spot.{Spot}
 use Rattle.room.specs.declared.Where.{Where}
 use Rattle.room.proofs.WhereLaws.{file-small}
@@ -27,8 +28,6 @@ use Rattle.proving.specs.Parts.{ClauseParts, quantifiers, core, body_place}
 use Rattle.proving.specs.Frames.{alls, unsets}
 use Rattle.proving.specs.Filling.{Filling, Unsets, Starting}
 use Rattle.proving.specs.Hand.{Opened}
-use Rattle.proving.specs.declared.Chosen.{Chosen}
-use Rattle.proving.specs.declared.Chosen.TheVariants as C
 use Rattle.proving.specs.declared.plain.Parts.{Parts}
 use Rattle.proving.proofs.WalkLaws.{any-no}
 use Rattle.proving.proofs.StockLaws.{keeps_same, keeps_then, keeps-less}
@@ -38,7 +37,7 @@ use Rattle.proving.proofs.FillingLaws.{plain-is, alls-fillable, never-fills, hea
 use Rattle.proving.proofs.PlainLaws.{frame-ends, head-at, atom-there, start-keeps, start-filling, filling-body}
 use Rattle.proving.proofs.FillLaws.{starting, opened-parts}
 use Rattle.narrowing.specs.Sets.{SetsBeside}
-use Rattle.narrowing.specs.Tried.{Given, Lacks, ServesNot, Narrows, NarrowsGoal, NarrowsBy}
+use Rattle.narrowing.specs.Tried.{Given, Lacks, Narrows, NarrowsGoal, NarrowsBy}
 
 -- an atom that no clause at hand serves has no proof
 pub none-serves : (us : List Term) (left : ℕ) (o : List Plain) (c : Hand Plain) (es : Bindings) (a : Atom) → ((k : ℕ) (h : AtHand Plain) → get_elem? c k ≡ some h → passes us left o c es a h.clause h.bindings ≡ false) → provable (listed us) (suc left) o c es (Goal.atom a) ≡ false
@@ -55,7 +54,7 @@ unfolding through ending
 body-yes us left o c bs a g b ds e = (both_true (same_atom (replaced_atom us ds b) (replaced_atom us bs a)) (provable (listed us) left o c ds g) e).1
 
 -- a clause with quantifiers around a goal that implies an atom, where the atom's variable u is what v of the atom asked for is
-rule-serves-not : (us : List Term) (left : ℕ) (o : List Plain) (c : Hand Plain) (bs : Bindings) (a : Atom) (own v u : ℕ) (marks : List ℕ) (m : ℕ) (g : Goal Plain) (b : Atom) (bs' fr : Bindings) → SameIs us a b v (Val.Is u)
+rule-serves-not : (us : List Term) (left : ℕ) (o : List Plain) (c : Hand Plain) (bs : Bindings) (a : Atom) (own v u : ℕ) (marks : List ℕ) (m : ℕ) (g : Goal Plain) (b : Atom) (bs' fr : Bindings) → SameIs us a b v (Some u)
     → ((es ds : Bindings) → Becomes us own bs es → replaced_atom us ds b ≡ replaced_atom us es a → Becomes us m (unsets m bs') ds → Becomes us m fr ds) → Lacks us left o c m u marks fr g
     → (i : ℕ) (es : Bindings) → Given us own v marks i bs es → passes us left o c es a (alls m (Clause.imp_d g b)) bs' ≡ false
 rule-serves-not us left o c bs a own v u marks m g b bs' fr same follows lacks i es G =
@@ -72,8 +71,8 @@ pub says_nothing : {right : List ℕ → Type 0} {supposed top : ℕ} (room : Li
 says_nothing room = record { kept = keeps_same room; told = λ e. absurd (false≢true e) }
 
 -- the clause that the parts are of, once its own variables are unset and those beside arguments that are set have been set, by what its body says
-through-body : {f : Files} {mid low set after : List ℕ} {ds : List (Clause Plain)} {us : List Term} {w y : Where} {p : Parts} {left own v u asked : ℕ} {o : List Plain} {c : Hand Plain} {bs : Bindings} {a : Atom} {e : Clause Plain} {bs' : Bindings} {marks : List ℕ} {z : Value} {r : Bool}
-    → Starting f mid ds us w p left o c bs a e bs' → p.headed ≡ true → Unsets mid low p.head p.own → SetsBeside f low set p asked → ArgumentsAre us own bs v a asked → p.body ≡ true → SameAs f w.goal p.head v z → z ≡ Val.Is u → y ≡ body_place w p → NarrowsGoal f set after y p.own u left marks r
+through-body : {f : Files} {mid low set after : List ℕ} {ds : List (Clause Plain)} {us : List Term} {w y : Where} {p : Parts} {left own v u asked : ℕ} {o : List Plain} {c : Hand Plain} {bs : Bindings} {a : Atom} {e : Clause Plain} {bs' : Bindings} {marks : List ℕ} {z : std.Option ℕ} {r : Bool}
+    → Starting f mid ds us w p left o c bs a e bs' → p.headed ≡ true → Unsets mid low p.head p.own → SetsBeside f low set p asked → ArgumentsAre us own bs v a asked → p.body ≡ true → SameAs f w.goal p.head v z → z ≡ Some u → y ≡ body_place w p → NarrowsGoal f set after y p.own u left marks r
     → Narrows (Stock f ds us w.supposed c) w.supposed w.top mid after r ((i : ℕ) (es : Bindings) → Given us own v marks i bs es → passes us left o c es a (alls p.own e) bs' ≡ false)
 through-body {f} {mid} {low} {set} {after} {ds} {us} {w} {y} {p} {left} {own} {v} {u} {asked} {o} {c} {bs} {a} {e} {bs'} {marks} {z} {r} t head unset sets args body same is at says = go e (start-filling t unset)
   where
@@ -95,14 +94,14 @@ through-body {f} {mid} {low} {set} {after} {ds} {us} {w} {y} {p} {left} {own} {v
     go (Clause.all_d q d) h = absurd h.parts
     go (Clause.and_d d d') h = absurd h.parts
 
-module _ {f : Files} {room mid : List ℕ} {w : Where} {own v asked left : ℕ} (k : ℕ) {q : Chosen} (opened : Opened room mid k w.supposed w.top q) where
+module _ {f : Files} {room mid : List ℕ} {w : Where} {own v asked left : ℕ} (k : ℕ) {q : std.Option Spot} (opened : Opened room mid k w.supposed w.top q) where
   -- there is no such clause
-  pub rule-none : {marks : List ℕ} → q ≡ C.Nothing → NarrowsBy f room mid w own v asked k left marks false
+  pub rule-none : {marks : List ℕ} → q ≡ None → NarrowsBy f room mid w own v asked k left marks false
   rule-none e ds us o c bs a rd args =
       let (n, same) = opened-none rd k (subst (Opened room mid k w.supposed w.top) e opened) in
       record { kept = subst (Keeps (Stock f ds us w.supposed c) w.supposed w.top room) (sym same) (keeps_same room); told = λ z. absurd (false≢true z) }
 
-  module _ {x : Spot} (e : q ≡ C.Clause x) where
+  module _ {x : Spot} (e : q ≡ Some x) where
     -- nothing is said of it
     pub rule-stops : {marks : List ℕ} → NarrowsBy f room mid w own v asked k left marks false
     rule-stops ds us o c bs a rd args =
@@ -110,9 +109,9 @@ module _ {f : Files} {room mid : List ℕ} {w : Where} {own v asked left : ℕ} 
         record { kept = z.kept; told = λ y. absurd (false≢true y) }
 
     -- its body says it
-    pub rule-goes : {low set after marks : List ℕ} {p : Parts} {z : Value} {u : ℕ} {y : Where} {r : Bool} → ClauseParts f mid k x p → p.found ≡ true → p.body ≡ true → SameAs f w.goal p.head v z → z ≡ Val.Is u
+    pub rule-goes : {low set after marks : List ℕ} {s : std.Option Parts} {p : Parts} {z : std.Option ℕ} {u : ℕ} {y : Where} {r : Bool} → ClauseParts f mid k x s → s ≡ Some p → p.body ≡ true → SameAs f w.goal p.head v z → z ≡ Some u
         → Unsets mid low p.head p.own → SetsBeside f low set p asked → y ≡ body_place w p → NarrowsGoal f set after y p.own u left marks r → NarrowsBy f room after w own v asked k left marks r
-    rule-goes {low} {set} {after} {marks} {p} {z} {u} {y} {r} parts found body same is unset sets at says ds us o c bs a rd args =
+    rule-goes {low} {set} {after} {marks} {s} {p} {z} {u} {y} {r} parts found body same is unset sets at says ds us o c bs a rd args =
         let there = opened-clause rd k (subst (Opened room mid k w.supposed w.top) e opened) in
         let t = there.taken in
         let d = there.clause.clause in

@@ -12,15 +12,13 @@ use Rattle.harrop.specs.Formula.{Term, Terms, Atom, Clause}
 use Rattle.harrop.specs.Bindings.{Bindings, meant, value_of, replaced, replaceds, replaced_atom}
 use Rattle.harrop.specs.Place.{Hand, Plain}
 use Rattle.harrop.proofs.ListLaws.{member_below}
-use Rattle.sexp.specs.declared.skip.After.{After}
-use Rattle.sexp.specs.declared.skip.After.TheVariants as A
-use Rattle.sexp.specs.declared.words.Value.{Value}
-use Rattle.sexp.specs.declared.words.Value.TheVariants as Val
+use Rattle.std.specs.Prelude.{Option, Some}
 use Rattle.sexp.specs.Past.{PastAt}
 use Rattle.sexp.proofs.StandLaws.{none-closes}
 use Rattle.room.specs.Frame.{binding_word, held}
 use Rattle.room.specs.Spot.{bindings_at}
-use Rattle.room.specs.Where.{Files, further}
+use Rattle.room.specs.Where.{further}
+use Rattle.room.specs.Files.{Files}
 use Rattle.room.specs.declared.Spot.{Spot}
 use Rattle.room.specs.declared.Where.{Where}
 use Rattle.room.proofs.FrameLaws.{bound-means}
@@ -64,7 +62,7 @@ module _ {f : Files} {room : List ℕ} {p : Parts} {x : Spot} {n : ℕ} where
   pub one_none : SetsOne f room room p x n
   one_none ds us w left o c bs a e fr own v t u F T h A = set-none F
 
-  pub one_set : {after : List ℕ} {q : Value} {j y : ℕ} → n < 1021 → OpenAt f room x p.own q → q ≡ Val.Is j → y ≡ variable_word p.head j → after ≡ set room y (held (binding_word (Candidate (n - 1)))) → SetsOne f room after p x n
+  pub one_set : {after : List ℕ} {q : Option ℕ} {j y : ℕ} → n < 1021 → OpenAt f room x p.own q → q ≡ Some j → y ≡ variable_word p.head j → after ≡ set room y (held (binding_word (Candidate (n - 1)))) → SetsOne f room after p x n
   one_set {j = j} l O i y h =
       subst (λ (m : List ℕ). SetsOne f room m p x n) (sym (h ∙ ap (λ (k : ℕ). set room k (held (binding_word (Candidate (n - 1))))) y))
       (λ ds us w left o c bs a e fr own v t u F T hold A.
@@ -83,7 +81,7 @@ module _ {f : Files} {room : List ℕ} {p : Parts} {i : ℕ} (asked : ℕ) where
   pub from-none : SetsFrom f room room p i asked
   from-none ds us w left o c bs a e fr own v ts ws F R A = set-none F
 
-  pub from_next : {mid after s : List ℕ} {x : Spot} {b : Bool} {q : After} {m : ℕ} → (asked ≡ 0 → ⊥) → s ≡ drop p.head.at (bytes_at f p.head) → b ≡ eqb (get_or s i 0) 41 → b ≡ false → PastAt s i 64 q → q ≡ A.Next m → x ≡ further p.head i
+  pub from_next : {mid after s : List ℕ} {x : Spot} {b : Bool} {q : Option ℕ} {m : ℕ} → (asked ≡ 0 → ⊥) → s ≡ drop p.head.at (bytes_at f p.head) → b ≡ eqb (get_or s i 0) 41 → b ≡ false → PastAt s i 64 q → q ≡ Some m → x ≡ further p.head i
       → SetsOne f room mid p x (asked % 1024) → SetsFrom f mid after p m (asked / 1024) → SetsFrom f room after p i asked
   from_next {mid} {after} {s} {m = m} some es g h past next at one rest ds us w left o c bs a e fr own v ts ws F R A = go ts ws (subst (λ (l : List ℕ). Row p.head.count l i ts) (sym es) R) A
     where
@@ -106,10 +104,10 @@ module _ {f : Files} {room : List ℕ} {p : Parts} (asked : ℕ) where
   pub beside_none : SetsBeside f room room p asked
   beside_none ds us w left o c bs a e fr own v F y A = set-none F
 
-  pub beside-all : {after s : List ℕ} {q : After} {n : ℕ} → (asked ≡ 0 → ⊥) → s ≡ drop p.head.at (bytes_at f p.head) → PastAt s 7 0 q → q ≡ A.Next n → SetsFrom f room after p n asked → SetsBeside f room after p asked
+  pub beside-all : {after s : List ℕ} {q : Option ℕ} {n : ℕ} → (asked ≡ 0 → ⊥) → s ≡ drop p.head.at (bytes_at f p.head) → PastAt s 7 0 q → q ≡ Some n → SetsFrom f room after p n asked → SetsBeside f room after p asked
   beside-all {after} {n = n} some es past next all ds us w left o c bs a e fr own v F y A = go (head_of e) (head-at F y)
     where
-      go : (b : Atom) → AtomAt f.rules f.goal f.terms p.head b → SetBy f room after ds us w p left o c bs a e fr own (λ es gs. replaced_atom us gs b ≡ replaced_atom us es a)
+      go : (b : Atom) → AtomAt f p.head b → SetBy f room after ds us w p left o c bs a e fr own (λ es gs. replaced_atom us gs b ≡ replaced_atom us es a)
       go (Atom.atom m ts) X =
           let R = subst (λ (l : List ℕ). Row p.head.count l n ts) es (row-after m ts X es n (name-past m ts X es past next)) in
           let S = all ds us w left o c bs a e fr own v ts (arguments_of a) F R (A some) in

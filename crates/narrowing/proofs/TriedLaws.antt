@@ -16,15 +16,15 @@ use Rattle.harrop.specs.Bindings.{Bindings, meant, value_of, replaced_atom, same
 use Rattle.harrop.specs.Place.{AtHand, Hand, Plain, listed}
 use Rattle.harrop.proofs.ListLaws.{member_below}
 use Rattle.harrop.proofs.SameLaws.{same-terms-equal, equal-terms-same}
-use Rattle.sexp.specs.declared.skip.After.{After}
-use Rattle.sexp.specs.declared.skip.After.TheVariants as A
+use Rattle.std.specs.Prelude.{Option, Some, None}
 use Rattle.sexp.specs.Past.{PastAt}
 use Rattle.packet.specs.declared.Word.{Word}
 use Rattle.packet.specs.declared.Word.TheVariants as W
 use Rattle.reader.specs.WordAt.{WordAt}
 use Rattle.packet.specs.Barred.{goal_ok}
 use Rattle.room.specs.Layout.{rules_word, candidates_word}
-use Rattle.room.specs.Where.{Files, plus, within}
+use Rattle.room.specs.Where.{plus, within}
+use Rattle.room.specs.Files.{Files}
 use Rattle.room.specs.declared.Where.{Where}
 use Rattle.equal.proofs.AtomLaws.{atom-at}
 use Rattle.room.proofs.WhereLaws.{file-small}
@@ -99,12 +99,12 @@ module _ {f : Files} {room : List ℕ} {w : Where} {own v : ℕ} {marks : List �
       record { kept = m.kept; told = λ t i es G. ap (λ (b : Bool). b && provable (listed us) left o c es y) (m.told z i es G) })
 
   -- there is always a second
-  pub and-lost : {mid : List ℕ} {q : After} (left : ℕ) → PastAt (drop w.goal.at (bytes_at f w.goal)) 6 64 q → q ≡ A.Nothing → NarrowsAs W.And f room mid w own v left marks false
+  pub and-lost : {mid : List ℕ} {q : Option ℕ} (left : ℕ) → PastAt (drop w.goal.at (bytes_at f w.goal)) 6 64 q → q ≡ None → NarrowsAs W.And f room mid w own v left marks false
   and-lost left past e ds us o c bs g h = and_parts left ds us o c bs g h (λ x y r. absurd (first_found (octets "and") heads.0 r.place.framed.stands (omega (arith, r.place.framed.shallow)) past e))
 
   -- which says it if the first does not
-  pub and_second : {mid after before : List ℕ} {u u' : Where} {q : After} {j : ℕ} {s r : Bool} (left : ℕ) → u ≡ within w 6 → NarrowsGoal f room mid u own v left before s → length mid ≡ length room
-      → PastAt (drop w.goal.at (bytes_at f w.goal)) 6 64 q → q ≡ A.Next j → u' ≡ within w j → NarrowsGoal f mid after u' own v left marks r → NarrowsAs W.And f room after w own v left marks r
+  pub and_second : {mid after before : List ℕ} {u u' : Where} {q : Option ℕ} {j : ℕ} {s r : Bool} (left : ℕ) → u ≡ within w 6 → NarrowsGoal f room mid u own v left before s → length mid ≡ length room
+      → PastAt (drop w.goal.at (bytes_at f w.goal)) 6 64 q → q ≡ Some j → u' ≡ within w j → NarrowsGoal f mid after u' own v left marks r → NarrowsAs W.And f room after w own v left marks r
   and_second {mid} {after} {before} {j = j} {s = s} {r = r} left e n long past next e' n' ds us o c bs g h = and_parts left ds us o c bs g h (λ x y rd.
       let ok = both_of (goal_ok (length bs) x) (goal_ok (length bs) y) rd.place.scoped in
       let part = ready-part rd 6 x (first_part (octets "and") heads.0 rd.place.framed.stands) (omega arith) ok.0 in

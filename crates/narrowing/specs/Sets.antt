@@ -4,7 +4,7 @@ use Rattle.harrop.specs.Formula.{Term, Terms, Atom, Clause}
 use Rattle.harrop.specs.Bindings.{Bindings, replaced, replaceds, replaced_atom}
 use Rattle.harrop.specs.Place.{Hand, Plain}
 use Rattle.room.specs.Spot.{bindings_at}
-use Rattle.room.specs.Where.{Files}
+use Rattle.room.specs.Files.{Files}
 use Rattle.room.specs.declared.Spot.{Spot}
 use Rattle.room.specs.declared.Where.{Where}
 use Rattle.equal.specs.Term.{TermAt}
@@ -28,7 +28,7 @@ pub record SetBy (f : Files) (room after : List ℕ) (ds : List (Clause Plain)) 
 abbrev pub SetsOne : Files → List ℕ → List ℕ → Parts → Spot → ℕ → Type 0
 SetsOne f room after p x n =
     (ds : List (Clause Plain)) (us : List Term) (w : Where) (left : ℕ) (o : List Plain) (c : Hand Plain) (bs : Bindings) (a : Atom) (e : Clause Plain) (fr : Bindings) (own v : ℕ) (t u : Term) →
-    Filling f room ds us w p left o c bs a e fr → TermAt f.rules f.goal f.terms x t → bindings_at room x ≡ fr → Argument us own bs v u n →
+    Filling f room ds us w p left o c bs a e fr → TermAt f x t → bindings_at room x ≡ fr → Argument us own bs v u n →
     SetBy f room after ds us w p left o c bs a e fr own (λ es gs. replaced us gs t ≡ replaced us es u)
 
 -- by those from an offset on, beside as many with a word

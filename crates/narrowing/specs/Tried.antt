@@ -8,7 +8,7 @@ use Rattle.harrop.specs.Formula.{Term, Atom, Goal, Clause}
 use Rattle.harrop.specs.Bindings.{Bindings, meant, value_of}
 use Rattle.harrop.specs.Place.{AtHand, Hand, Plain, listed}
 use Rattle.packet.specs.declared.Word.{Word}
-use Rattle.room.specs.Where.{Files}
+use Rattle.room.specs.Files.{Files}
 use Rattle.room.specs.declared.Where.{Where}
 use Rattle.heads.specs.Heads.{goal_word}
 use Rattle.mentions.specs.Open.{is_open, Becomes}

@@ -6,6 +6,7 @@ ghost use Rattle.std.specs.Prelude.{◌≡◌};
 ghost use Rattle.packet.specs.Numbers.{reason_number, file_number};
 
 // The words of the table, and what is none of them.
+// Kept: `Nothing` is a word of the definitions too (`word_of`, `rank` and `sort_of`, specs/), whose theorems are of every word; with an Option each of them would begin with one match more.
 #[derive(Clone, Copy)]
 pub enum Word {
     V,
@@ -55,71 +56,53 @@ pub enum Due {
     TwoPerhaps(Kind, Kind, Kind),
 }
 
-// Why a packet or a search is refused, in the order of document 01's table.
+// Why a packet or a search is refused, with the numbers of document 01's table.
 #[derive(Clone, Copy)]
 pub enum Reason {
-    // 1: a file is over 16,384 bytes.
-    Long,
-    // 2: it is not one canonical expression.
-    Carrier,
-    // 3: a list lies at level 65 or deeper.
-    Deep,
-    // 4: it is not built from the table of words.
-    Words,
-    // 5: a variable or parameter is barred at its place.
-    Barred,
-    // 6: over 256 rules or candidates.
-    Many,
-    // 7: the strip does not fit.
-    Misfit,
-    // 8: no proof within the height.
-    NoProof,
-    // 9: the height is over 32.
-    Height,
-    // 10: the strip is longer than its buffer or than a file may be.
-    Buffer,
-    // 11: the work room is too small.
-    Room,
+    // A file is over 16,384 bytes.
+    Long = 1,
+    // It is not one canonical expression.
+    Carrier = 2,
+    // A list lies at level 65 or deeper.
+    Deep = 3,
+    // It is not built from the table of words.
+    Words = 4,
+    // A variable or parameter is barred at its place.
+    Barred = 5,
+    // Over 256 rules or candidates.
+    Many = 6,
+    // The strip does not fit.
+    Misfit = 7,
+    // No proof within the height.
+    NoProof = 8,
+    // The height is over 32.
+    Height = 9,
+    // The strip is longer than its buffer or than a file may be.
+    Buffer = 10,
+    // The work room is too small.
+    Room = 11,
 }
 
-// The file that a refusal is about.
+// The file that a refusal is about, with its number.
 #[derive(Clone, Copy)]
 pub enum File {
-    None,
-    Rules,
-    Goal,
-    Terms,
-    Strip,
+    None = 0,
+    Rules = 1,
+    Goal = 2,
+    Terms = 3,
+    Strip = 4,
 }
 
 // The paper's number of a refusal.
 pub fn reason_number(why: Reason) -> u32
     ensures { result ≡ reason_number why }
 {
-    match why {
-        Reason::Long => 1,
-        Reason::Carrier => 2,
-        Reason::Deep => 3,
-        Reason::Words => 4,
-        Reason::Barred => 5,
-        Reason::Many => 6,
-        Reason::Misfit => 7,
-        Reason::NoProof => 8,
-        Reason::Height => 9,
-        Reason::Buffer => 10,
-        Reason::Room => 11,
-    }
+    why as u32
 }
 
 // The paper's number of a file.
 pub fn file_number(file: File) -> u32
     ensures { result ≡ file_number file }
 {
-    match file {
-        File::None => 0,
-        File::Rules => 1,
-        File::Goal => 2,
-        File::Terms => 3,
-        File::Strip => 4,
-    }
+    file as u32
 }

@@ -2,80 +2,63 @@
 // cases and the lines that are expected come from the second program alone.
 #![tactic(auto)]
 
-ghost use Rattle.std.specs.Prelude.{◌≡◌, ◌<◌, ◌≤◌, length};
+ghost use Rattle.std.specs.Prelude.{◌<◌, length};
 
-use programs::{load, say, say_number, say_refused, string};
-use reader::Read;
+use programs::{RefusalNumbers, filled, loaded, split_string};
+use reader::{Counts, Refusal};
 use std::io;
 
-fn show(out: &impl Print, p: Read) {
-    match p {
-        Read::Sound(rules, candidates) => {
-            say(out, b"sound");
-            say_number(out, rules as u64);
-            say_number(out, candidates as u64);
-        }
-        Read::Refused(why, file, at) => say_refused(out, why, file, at),
-    }
-    say(out, b"\n");
+// What cannot be printed is left out.
+// Kept: the answer of a packet that is read has no printed form but in this program.
+fn show(out: &impl Print, answer: Result<Counts, Refusal>) {
+    let _ = match answer {
+        Ok(Counts { rules, candidates }) => println!(out; "sound {rules} {candidates}"),
+        Err(
+            Refusal {
+                reason,
+                file,
+                place,
+            },
+        ) => out.println(RefusalNumbers::new(reason, file, place)),
+    };
 }
 
 // Reads the four files of a case, or three, and shows the answer.
-fn packet(out: &impl Print, three: bool, rules: &[u8], goal: &[u8], terms: &[u8], strip: &[u8]) {
-    if three {
+fn packet(out: &impl Print, how: &[u8], rules: &[u8], goal: &[u8], terms: &[u8], strip: &[u8]) {
+    if how == b"3".as_slice() {
         show(out, reader::read_books(rules, goal, terms));
-        return;
-    }
-    show(out, reader::read_packet(rules, goal, terms, strip));
-}
-
-// Reads the case at an offset, and answers where the next one starts.
-fn case(out: &impl Print, s: &[u8], at: usize) -> usize
-    requires { at < length s.now }
-    ensures { at ≤ result }
-{
-    let how = string(s, at);
-    let a = how.to;
-    let rules = string(s, a);
-    let b = rules.from;
-    let c = rules.to;
-    let goal = string(s, c);
-    let d = goal.from;
-    let e = goal.to;
-    let terms = string(s, e);
-    let f = terms.from;
-    let g = terms.to;
-    let strip = string(s, g);
-    let h = strip.from;
-    let i = strip.to;
-    let three = sexp::is_word(s, at, b"3");
-    packet(out, three, &s[b..c], &s[d..e], &s[f..g], &s[h..i]);
-    i
-}
-
-fn cases(out: &impl Print, s: &[u8]) {
-    let mut at = 0;
-    while at < s.len() {
-        let next = case(out, s, at);
-        if next <= at {
-            return;
-        }
-        at = next;
+    } else {
+        show(out, reader::read_packet(rules, goal, terms, strip));
     }
 }
 
-// Bytes for a file.
-fn blank() -> [u8; 655360]
-    ensures { 655360 ≡ length result }
+// Reads the case that a file begins with, and answers what comes after it.
+fn case<'a>(out: &impl Print, file: &'a [u8]) -> &'a [u8]
+    requires { 0 < length file.now }
+    ensures { length result.now < length file.now }
 {
-    [0; 655360]
+    let (how, rest) = split_string(file);
+    let (rules, rest) = split_string(rest);
+    let (goal, rest) = split_string(rest);
+    let (terms, rest) = split_string(rest);
+    let (strip, rest) = split_string(rest);
+    packet(out, how, rules, goal, terms, strip);
+    rest
+}
+
+// Kept: the loop is each case program's own, since what a case is differs; a function of it would take that as a closure and say no less.
+fn cases(out: &impl Print, file: &[u8]) {
+    let mut rest = file;
+    while !rest.is_empty() {
+        rest = case(out, rest);
+    }
 }
 
 fn main(rt: HostRuntime) -> io::Result<()> {
-    let mut room = blank();
-    let n = load(&rt, b"cases1", &mut room)?;
-    cases(&rt, &room[..n]);
-    let m = load(&rt, b"cases2", &mut room)?;
-    cases(&rt, &room[..m]);
+    let mut room: [u8; 655360] = filled(0);
+    let names: [&[u8]; 2] = [b"cases1", b"cases2"];
+    for name in names {
+        cases(&rt, loaded(&rt, name, &mut room)?);
+    }
     Ok(())
 }

@@ -4,8 +4,7 @@ use mathlib.Core.Path.{◌≡◌, sym, ◌∙◌, ap}
 use mathlib.Core.List.{List, [], ◌∷◌, ◌++◌, append-nil}
 use native.Mathlib.Omega.{arith}
 use lib.ListN.{length, length-append}
-use Rattle.sexp.specs.Decimal.{decimal_onto, decimal}
-use Rattle.sexp.specs.Sexp.{verbatim_onto}
+use Rattle.sexp.specs.Decimal.{decimal}
 use Rattle.sexp.proofs.DecimalLaws.{onto-small, onto-step, by_digits}
 use Rattle.sexp.proofs.OntoLaws.{decimal-onto}
 use Rattle.pen.specs.Laid.{Puts}

@@ -5,25 +5,13 @@
 ghost use Rattle.std.specs.Prelude.{◌≡◌, ◌+◌, ◌%◌, [], ◌∷◌, length};
 ghost use Rattle.sexp.specs.Decimal.{decimal};
 ghost use Rattle.pen.specs.Laid.{Puts};
-ghost use Rattle.pen.specs.Laid as laying;
 ghost use Rattle.pen.specs.Numeral.{numeral};
 
-// The next place, counted no further than a machine word goes.
-fn after(at: usize) -> usize
-    ensures { result ≡ laying.counted (at + 1) }
-{
-    if at < 0xffff_ffff_ffff_ffff {
-        at + 1
-    } else {
-        at
-    }
-}
-
-// One byte; the place after it.
+// One byte; the place after it, counted no further than a machine word goes.
 pub fn put_byte(buf: &mut [u8], at: usize, b: u8) -> usize
     ensures { Puts at (b ∷ []) buf.old buf.new result }
 {
-    let m = after(at);
+    let m = at.saturating_add(1);
     if at < buf.len() {
         buf[at] = b;
         return m;
@@ -36,10 +24,8 @@ pub fn put(buf: &mut [u8], at: usize, word: &[u8]) -> usize
     ensures { Puts at word.now buf.old buf.new result }
 {
     let mut m = at;
-    let mut i = 0;
-    while i < word.len() {
-        m = put_byte(buf, m, word[i]);
-        i += 1;
+    for b in word {
+        m = put_byte(buf, m, *b);
     }
     m
 }

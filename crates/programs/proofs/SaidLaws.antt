@@ -3,16 +3,14 @@ use Prim.Native.Nat.{ℕ, ◌+◌, ◌-◌, ◌*◌, ◌<◌, ◌≤◌, min}
 use mathlib.Core.Path.{◌≡◌, refl, sym, ap, ◌∙◌}
 use mathlib.Core.Bool.{Bool, true, false, ◌&&◌}
 use mathlib.Core.List.{List, [], ◌∷◌}
-use mathlib.Core.Option.{none, some}
+use Rattle.std.specs.Prelude.{Some, None}
 use native.Mathlib.Omega.{arith}
-use lib.Dec.{leb}
 use lib.ListN.{length, get_or, drop, drop_of_length-le}
-use borrow.Author.Tests.{le-leb, lt-leb}
 use Rattle.basics.specs.Choice.{choose}
+use Rattle.std.specs.Char.{is_ascii_digit}
 use Rattle.sexp.specs.Decimal.{is_digit}
 use Rattle.sexp.specs.Number.{largest}
 use Rattle.sexp.specs.Words.{every, worth, worth_after}
-use Rattle.sexp.specs.declared.words.Value.TheVariants as Vs
 use Rattle.sexp.proofs.DecimalLaws.{digit-is}
 use Rattle.sexp.proofs.NumberLaws.{drop_here}
 use Rattle.programs.specs.Said.{said, held}
@@ -45,34 +43,30 @@ reading-on w v i r n h l u e = record {
   digits = n.digits ∙ one_more w i h ∙ ap (λ (b : Bool). b && every is_digit (drop (i + 1) w)) (digit-is (get_or w i 0) l u);
 }
 
--- an octet below or above the digits
-pub too-low : (c : ℕ) → c < 48 → is_digit c ≡ false
+-- std's digits are these
+pub no-digit : (c : ℕ) → is_ascii_digit c ≡ false → is_digit c ≡ false
 unfolding is_digit
-too-low c h = ap (λ (b : Bool). b && leb c 57) (lt-leb 48 c h)
-
-pub too-high : (c : ℕ) → 57 < c → is_digit c ≡ false
-unfolding is_digit
-too-high c h = let l : leb 48 c ≡ true = le-leb 48 c (omega arith) in rw l (lt-leb c 57 h)
+no-digit c e = e
 
 -- what is no word of digits says nothing
-pub says_none : (w : List ℕ) → length w ≡ 0 → Vs.Nothing ≡ held (said w)
+pub says_none : (w : List ℕ) → length w ≡ 0 → None ≡ held (said w)
 unfolding said
 says_none [] h = refl
 says_none (c ∷ w) h = absurd (omega arith)
 
-pub says_nothing : (w : List ℕ) (v i : ℕ) → Reading w v i → i < length w → is_digit (get_or w i 0) ≡ false → Vs.Nothing ≡ held (said w)
+pub says_nothing : (w : List ℕ) (v i : ℕ) → Reading w v i → i < length w → is_digit (get_or w i 0) ≡ false → None ≡ held (said w)
 unfolding said
 says_nothing [] v i n h e = absurd (omega arith)
 says_nothing (c ∷ w) v i n h e =
     let f : every is_digit (c ∷ w) ≡ false = n.digits ∙ one_more (c ∷ w) i h ∙ ap (λ (b : Bool). b && every is_digit (drop (i + 1) (c ∷ w))) e in
-    sym (ap (λ (b : Bool). held (choose b (some (worth (c ∷ w))) none)) f)
+    sym (ap (λ (b : Bool). held (choose b (Some (worth (c ∷ w))) None)) f)
 
 -- a word of digits says its number
-pub says-number : (w : List ℕ) (v i : ℕ) → Reading w v i → length w ≤ i → (length w ≡ 0 → ⊥) → Vs.Is v ≡ held (said w)
+pub says-number : (w : List ℕ) (v i : ℕ) → Reading w v i → length w ≤ i → (length w ≡ 0 → ⊥) → Some v ≡ held (said w)
 unfolding said every worth_after
 says-number [] v i n h l = absurd (l refl)
 says-number (c ∷ w) v i n h l =
     let z = drop_of_length-le (c ∷ w) {i = i} h in
     let f : every is_digit (c ∷ w) ≡ true = n.digits ∙ ap (every is_digit) z in
     let g : worth (c ∷ w) ≡ n.meant = n.rest ∙ ap (worth_after n.meant) z in
-    ap Vs.Is (n.clipped ∙ ap (λ (m : ℕ). min m largest) (sym g)) ∙ sym (ap (λ (b : Bool). held (choose b (some (worth (c ∷ w))) none)) f)
+    ap Some (n.clipped ∙ ap (λ (m : ℕ). min m largest) (sym g)) ∙ sym (ap (λ (b : Bool). held (choose b (Some (worth (c ∷ w))) None)) f)

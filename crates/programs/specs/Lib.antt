@@ -1,3 +1,4 @@
 pub mod Counts
+pub mod Printed
 pub mod Said
 pub mod StringAt

@@ -1,4 +1,5 @@
 // The words that a program is given.
+// Kept: `std::env::args` copies them all to the heap, which this repository does not use; `Env` puts one of them into a buffer that is lent.
 ghost use Rattle.programs.specs.Counts.{IsPrefixLen};
 
 use std::env::{Env, FillError};
@@ -7,10 +8,7 @@ use std::env::{Env, FillError};
 pub fn argument(env: &impl Env, i: usize, buf: &mut [u8]) -> usize
     ensures { IsPrefixLen result buf.new }
 {
-    match env.arg(i, buf) {
-        Ok(length) => length,
-        Err(_) => 0,
-    }
+    env.arg(i, buf).unwrap_or(0)
 }
 
 fn is_given(env: &impl Env, i: usize) -> bool {
@@ -20,9 +18,5 @@ fn is_given(env: &impl Env, i: usize) -> bool {
 
 // How many arguments there are, the program's name among them.
 pub fn argument_count(env: &impl Env) -> usize {
-    let mut count = 0;
-    while count < usize::MAX && is_given(env, count) {
-        count += 1;
-    }
-    count
+    (0..usize::MAX).take_while(|i| is_given(env, *i)).count()
 }

@@ -1,8 +1,8 @@
 // Where the strings of a case file (second/README.md) lie: each its length in decimal, a colon and that many octets, one after the other.
-ghost use Rattle.std.specs.Prelude.{◌≤◌, min, length};
-ghost use Rattle.programs.specs.StringAt.{StringAt};
+ghost use Rattle.std.specs.Prelude.{◌<◌, ◌≤◌, min, length};
+ghost use Rattle.programs.specs.StringAt.{StringAt, SplitsString};
 
-use sexp::{Octets, plain};
+use sexp::plain;
 
 // A part of the case file.
 #[derive(Clone, Copy)]
@@ -17,10 +17,19 @@ pub fn string(s: &[u8], at: usize) -> Part
     ensures s_bound { (min at (length s.now) ≤ result.to) × ((result.from ≤ result.to) × (result.to ≤ length s.now)) }
 {
     match plain(s, at) {
-        Octets::Nothing => Part {
+        None => Part {
             from: s.len(),
             to: s.len(),
         },
-        Octets::Span(from, n) => Part { from, to: from + n },
+        Some((from, n)) => Part { from, to: from + n },
     }
+}
+
+// The string that a case file begins with, and what comes after it; where none stands, both are empty.
+pub fn split_string(s: &[u8]) -> (&[u8], &[u8])
+    ensures split { SplitsString s.now result.0.now result.1.now }
+    ensures shorter { 0 < length s.now → length result.1.now < length s.now }
+{
+    let Part { from, to } = string(s, 0);
+    (&s[from..to], &s[to..])
 }

@@ -1,17 +1,20 @@
-// What the programs share: a file is read, or made and named, an argument is read, a word of digits is a number, a line is printed.
+// What the programs share: a file is read, or made and named, an argument is read, a word of digits is a number, a refusal is printed.
 #![tactic(auto)]
 
 mod arguments;
+mod buffer;
 mod cases;
+mod refusal;
 mod saved;
 mod word;
 
-ghost use Rattle.std.specs.Prelude.{◌≡◌, IfOk, IfErr, IsUtf8};
+ghost use Rattle.std.specs.Prelude.{◌≡◌, ◌≤◌, length, IfOk, IfErr, IsUtf8};
 ghost use Rattle.programs.specs.Counts.{IsPrefixLen};
 
 pub use arguments::{argument, argument_count};
-pub use cases::{Part, string};
-use packet::{File, Reason};
+pub use buffer::filled;
+pub use cases::{Part, split_string, string};
+pub use refusal::RefusalNumbers;
 pub use saved::{give_name, put_aside};
 use std::io::{ErrorKind, Read};
 use std::rt::Files;
@@ -22,29 +25,14 @@ pub use word::number;
 fn as_text(name: &[u8]) -> io::Result<&str>
     ensures { IfErr result (λ e. ¬ (IsUtf8 name.now)) }
 {
-    match std::str::from_utf8(name) {
-        Ok(text) => Ok(text),
-        Err(_) => Err(io::Error::new(ErrorKind::InvalidInput, "the name is not UTF-8")),
-    }
-}
-
-// Whether a file is there.
-#[derive(Drop)]
-enum Opened<F> {
-    Missing,
-    There(F),
-}
-
-fn open_file<R: Files>(files: &R, path: &[u8]) -> io::Result<Opened<R::File>>
-    ensures { IfErr result (λ e. ¬ (IsUtf8 path.now)) }
-{
-    match fs::open(files, as_text(path)?) {
-        Err(_) => Ok(Opened::Missing),
-        Ok(file) => Ok(Opened::There(file)),
-    }
+    std::str::from_utf8(name).map_err(|_| io::Error::new(
+        ErrorKind::InvalidInput,
+        "the name is not UTF-8",
+    ))
 }
 
 // Reads until the buffer is full, the input ends or a read fails. How many bytes were put at its start.
+// Kept: no call of the library fills a lent buffer and says how far; `read_exact` says little after an error, and `read_to_end` needs the heap.
 fn read_full<R: Read>(input: &mut R, buf: &mut [u8]) -> usize
     ensures { IsPrefixLen result buf.new }
 {
@@ -64,37 +52,24 @@ pub fn load(files: &impl Files, path: &[u8], buf: &mut [u8]) -> io::Result<usize
     ensures read { IfOk result (λ n. IsPrefixLen n buf.new) }
     ensures not_text { IfErr result (λ e. (buf.new ≡ buf.old) × ¬ (IsUtf8 path.now)) }
 {
-    match open_file(files, path)? {
-        Opened::Missing => Ok(0),
-        Opened::There(mut file) => Ok(read_full(&mut file, buf)),
-    }
+    let name = as_text(path)?;
+    let Ok(mut file) = fs::open(files, name) else {
+        return Ok(0);
+    };
+    Ok(read_full(&mut file, buf))
+}
+
+// The same, and lends the bytes that were read.
+pub fn loaded<'a>(files: &impl Files, path: &[u8], buf: &'a mut [u8]) -> io::Result<&'a [u8]>
+    ensures read { IfOk result (λ bytes. length bytes.now ≤ length buf.old) }
+    ensures not_text { IfErr result (λ e. ¬ (IsUtf8 path.now)) }
+{
+    let n = load(files, path, buf)?;
+    Ok(&buf[..n])
 }
 
 // Prints a word. What cannot be printed is left out.
+// Kept: what is printed are bytes, which no format takes.
 pub fn say(out: &impl Print, word: &[u8]) {
     let _ = out.write_all(word);
-}
-
-// Prints a space and a number.
-pub fn say_number(out: &impl Print, n: u64) {
-    say(out, b" ");
-    let _ = out.print(n);
-}
-
-// Prints a refusal by its numbers, without the end of its line.
-pub fn say_numbers(out: &impl Print, reason: u64, file: u64, place: u64) {
-    say(out, b"refused");
-    say_number(out, reason);
-    say_number(out, file);
-    say_number(out, place);
-}
-
-// Prints a refusal in the paper's numbers, without the end of its line.
-pub fn say_refused(out: &impl Print, reason: Reason, file: File, place: usize) {
-    say_numbers(
-        out,
-        packet::reason_number(reason) as u64,
-        packet::file_number(file) as u64,
-        place as u64,
-    );
 }

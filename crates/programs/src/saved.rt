@@ -26,6 +26,7 @@ fn make(files: &impl Files, name: &[u8], bytes: &[u8]) -> io::Result<()> {
 }
 
 // Prints a line: what the caller says, and why something failed, in words alone.
+// Kept: what is printed are bytes, which no format takes.
 fn tell(err: &impl Print, said: &[u8], why: io::Error) {
     let mut text = Cursor::new([0u8; 256]);
     let _ = write!(text, "{why}");
@@ -41,6 +42,7 @@ fn tell(err: &impl Print, said: &[u8], why: io::Error) {
 
 // Makes a file of these bytes under a name that must be free. Whether that was done; if not, a line on standard error, which begins with what the caller says, tells why, and
 // nothing is left of the file.
+// Kept: a failure is told here, so whether the bytes were written is all that is left to say.
 pub fn put_aside(
     files: &impl Files,
     err: &impl Print,
@@ -72,6 +74,7 @@ fn rename_text(files: &impl Files, aside: &str, name: &[u8]) -> io::Result<()> {
 }
 
 // Gives a file its own name, whatever stood under that before. Whether that was done; if not, a line on standard error tells why, and nothing is left of the file.
+// Kept: it renames where `put_aside` writes; what both tell of a failure is `tell`.
 pub fn give_name(
     files: &impl Files,
     err: &impl Print,

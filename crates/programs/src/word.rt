@@ -3,40 +3,28 @@ ghost use Rattle.std.specs.Prelude.{◌≡◌, ◌+◌, ◌-◌, ◌*◌, ◌≤
 ghost use Rattle.sexp.specs.Number.{largest};
 ghost use Rattle.programs.specs.Said.{said, held};
 
-use sexp::Value;
-
 // One digit more.
 fn grow(v: usize, b: u8) -> usize
     requires { (48 ≤ b) × (b ≤ 57) }
     ensures { result ≡ min (v * 10 + (b - 48)) largest }
 {
-    let d = (b - 48) as usize;
-    if v <= (0xffff_ffff_ffff_ffff - d) / 10 {
-        v * 10 + d
-    } else {
-        0xffff_ffff_ffff_ffff
-    }
+    v.saturating_mul(10).saturating_add(usize::from(b - b'0'))
 }
 
 // What a word says, if it is of digits alone; a number that no machine word holds says the largest.
-pub fn number(w: &[u8]) -> Value
+// Kept: `parse` takes a sign too, and refuses a number that no machine word holds (`said`, `held`).
+pub fn number(w: &[u8]) -> Option<usize>
     ensures { result ≡ held (said w.now) }
 {
-    if w.len() == 0 {
-        return Value::Nothing;
+    if w.is_empty() {
+        return None;
     }
     let mut v = 0;
-    let mut i = 0;
-    while i < w.len() {
-        let b = w[i];
-        if b < 48 {
-            return Value::Nothing;
+    for b in w {
+        if !b.is_ascii_digit() {
+            return None;
         }
-        if 57 < b {
-            return Value::Nothing;
-        }
-        v = grow(v, b);
-        i += 1;
+        v = grow(v, *b);
     }
-    Value::Is(v)
+    Some(v)
 }

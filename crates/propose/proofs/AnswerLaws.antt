@@ -7,17 +7,19 @@ use mathlib.Core.List.{List}
 use mathlib.Core.Option.{Option, none, some}
 use lib.ListN.{length, take, replicate}
 use lib.Seq.{length-take-le}
+use Rattle.std.specs.Prelude.{Result, Ok, Err}
 use Rattle.harrop.specs.Formula.{Strip, height, nodes}
 use Rattle.packet.specs.declared.Reason.{Reason}
 use Rattle.packet.specs.declared.Reason.TheVariants as R
 use Rattle.packet.specs.declared.File.{File}
 use Rattle.packet.specs.declared.File.TheVariants as F
-use Rattle.reader.specs.declared.files.Read.{Read}
-use Rattle.reader.specs.declared.files.Read.TheVariants as K
 use Rattle.packet.specs.File.{most_bytes, Outcome, Books, books_of}
+use Rattle.reader.specs.declared.files.Counts.{Counts}
+use Rattle.reader.specs.declared.files.Refusal.{Refusal}
 use Rattle.reader.specs.Judged.{books_read}
 use Rattle.packet.specs.Sound.{SoundBooks, BooksMean}
 use Rattle.packet.proofs.PacketLaws.{books-told}
+use Rattle.room.specs.Files.{Files, files_of}
 use Rattle.room.specs.Layout.{words}
 use Rattle.room.proofs.StartLaws.{cleared, untouched}
 use Rattle.proving.specs.Provable.{is_some}
@@ -80,64 +82,63 @@ front-inside z n l = sym (length-take-le n z l)
 -- the first strip drawn into `z`: copied only if it is not too long
 module _ (z' d : List ℕ) (m : Drawn) (most : ℕ) (w : most ≡ min (length d) most_bytes) where
   pub too_long : (q : Proposal) → most < m.at → q ≡ proposal (Comes.refuses R.Buffer F.None) → Handing z' m d d q
-  too_long q n a h rs gs ts room after z same v b S s e = no_room S d m.at q (v b S s e).long (omega arith) a
+  too_long q n a h f room after z same v b S s e = no_room S d m.at q (v b S s e).long (omega arith) a
 
   pub strip-copied : (d' : List ℕ) (next : ℕ) → m.at ≤ most → m.at ≤ length z' → Puts 0 (take m.at z') d d' next → Handing z' m d d' (P.Found m.height m.nodes m.at)
-  strip-copied d' next n l p h rs gs ts room after z same v b S s e =
+  strip-copied d' next n l p h f room after z same v b S s e =
       let y = v b S s e in
       let (x, c) = counted-short (length d) (length (written S)) m.at y.long (omega arith) in
       finding (unless_long (length d) S) S d d' m (unless-fits (length d) S x) y.high y.many c
       (copied (written S) z z' d d' m.at next (y.bytes (omega arith) (omega arith)) c p (omega arith) (omega arith))
 
 -- a strip that is longer than any may be, whatever the buffer; and one that is drawn once more, since the packet stays set out
-module _ (h : ℕ) (rs gs ts room after z z' d : List ℕ) (m : Drawn) (v : Measuring h rs gs ts room after z z' m) where
-  pub longer-than-any : (q : Proposal) → most_bytes < m.at → q ≡ proposal (Comes.refuses R.Buffer F.None) → Filling h rs gs ts room d d q
+module _ (h : ℕ) (f : Files) (room after z z' d : List ℕ) (m : Drawn) (v : Measuring h f room after z z' m) where
+  pub longer-than-any : (q : Proposal) → most_bytes < m.at → q ≡ proposal (Comes.refuses R.Buffer F.None) → Filling h f room d d q
   longer-than-any q n a b S s e = no_room S d m.at q (v b S s e).long (omega arith) a
 
-  pub drawn-again : (d' : List ℕ) (q : Proposal) → Filling h rs gs ts after d d' q → Filling h rs gs ts room d d' q
-  drawn-again d' q f b S s e = f b S (v b S s e).stays e
+  pub drawn-again : (d' : List ℕ) (q : Proposal) → Filling h f after d d' q → Filling h f room d d' q
+  drawn-again d' q g b S s e = g b S (v b S s e).stays e
 
 -- the search of a packet that is read: in `room₁` it is set out, `room₂` is left by the yes or no
-module _ (h : ℕ) (rs gs ts room room₁ room₂ d : List ℕ) (r : Bool) (t : Setting rs ts room room₁) (p : Telling h rs gs ts room₁ room₂ r) where
-  pub none_found : (q : Proposal) → r ≡ false → q ≡ proposal (Comes.refuses R.NoProof F.None) → Searching h rs gs ts room d d q
+module _ (h : ℕ) (f : Files) (room room₁ room₂ d : List ℕ) (r : Bool) (t : Setting f room room₁) (p : Telling h f room₁ room₂ r) where
+  pub none_found : (q : Proposal) → r ≡ false → q ≡ proposal (Comes.refuses R.NoProof F.None) → Searching h f room d d q
   unfolding of_first
   none_found q n a b s low long =
-      let y = p b (t h gs b s low long) in
+      let y = p b (t h b s low long) in
       refusing (of_first (length d) (first_strip h b)) R.NoProof F.None d q (ap (of_first (length d)) (no_none (first_strip h b) r y.answer n)) a
 
-  pub some-found : (d' : List ℕ) (q : Proposal) → r ≡ true → Filling h rs gs ts room₂ d d' q → Searching h rs gs ts room d d' q
+  pub some-found : (d' : List ℕ) (q : Proposal) → r ≡ true → Filling h f room₂ d d' q → Searching h f room d d' q
   unfolding of_first
-  some-found d' q n f b s low long =
-      let y = p b (t h gs b s low long) in
+  some-found d' q n g b s low long =
+      let y = p b (t h b s low long) in
       let (S, e) = yes-some (first_strip h b) r y.answer n in
-      subst (λ (o : Option Strip). Says (of_first (length d) o) d d' q) (sym e) (f b S y.stays e)
+      subst (λ (o : Option Strip). Says (of_first (length d) o) d d' q) (sym e) (g b S y.stays e)
 
 -- any height and files
 module _ (h : ℕ) (rs gs ts room d : List ℕ) where
   pub too-high : (q : Proposal) → most_height < h → q ≡ proposal (Comes.refuses R.Height F.None) → Answering h rs gs ts room d d q
   too-high q m a l = refusing (comes_to h (length d) (length room) rs gs ts) R.Height F.None d q (on-height h (length d) (length room) rs gs ts l m) a
 
-  module _ (low : h ≤ most_height) (x : Read) (e : x ≡ books_read (books_of rs gs ts)) where
-    pub file-at-fault : {r : Reason} {f : File} {at : ℕ} → x ≡ K.Refused r f at → Answering h rs gs ts room d d (P.Refused r f 0)
+  module _ (low : h ≤ most_height) (x : Result Counts Refusal) (e : x ≡ books_read (books_of rs gs ts)) where
+    pub file-at-fault : {y : Refusal} → x ≡ Err y → Answering h rs gs ts room d d (P.Refused y.reason y.file 0)
     unfolding proposal
-    file-at-fault {r} {f} {at} q l = go (books_of rs gs ts) refl (sym q ∙ e)
+    file-at-fault {y} q l = go (books_of rs gs ts) refl (sym q ∙ e)
       where
-        go : (o : Outcome Books) → books_of rs gs ts ≡ o → K.Refused r f at ≡ books_read o → Says (comes_to h (length d) (length room) rs gs ts) d d (P.Refused r f 0)
+        go : (o : Outcome Books) → books_of rs gs ts ≡ o → Err y ≡ books_read o → Says (comes_to h (length d) (length room) rs gs ts) d d (P.Refused y.reason y.file 0)
         go (Outcome.sound b) u v = let z : ◌≡◌ {A = ℕ} 0 1 = cc in absurd (omega arith)
         go (Outcome.refused r' f' at') u v =
-            let a : r ≡ r' = cc in
-            let c : f ≡ f' = cc in
-            refusing (comes_to h (length d) (length room) rs gs ts) r' f' d (P.Refused r f 0) (on-refused h (length d) (length room) rs gs ts l low r' f' at' u) (ap₂ (λ y z. P.Refused y z 0) a c)
+            let z : y ≡ record { reason = r'; file = f'; place = at' } = cc in
+            refusing (comes_to h (length d) (length room) rs gs ts) r' f' d (P.Refused y.reason y.file 0) (on-refused h (length d) (length room) rs gs ts l low r' f' at' u) (ap (λ (k : Refusal). P.Refused k.reason k.file 0) z)
 
-    pub files-read : (d' : List ℕ) (q : Proposal) {n m : ℕ} → x ≡ K.Sound n m → Searching h rs gs ts room d d' q → Answering h rs gs ts room d d' q
+    pub files-read : (d' : List ℕ) (q : Proposal) {k : Counts} → x ≡ Ok k → Searching h (files_of rs gs ts) room d d' q → Answering h rs gs ts room d d' q
     unfolding of_books
-    files-read d' q {n} {m} k s l = go (books_of rs gs ts) refl (books-told rs gs ts)
+    files-read d' q {k} i s l = go (books_of rs gs ts) refl (books-told rs gs ts)
       where
         go : (o : Outcome Books) → books_of rs gs ts ≡ o → BooksMean rs gs ts o → Says (comes_to h (length d) (length room) rs gs ts) d d' q
         go (Outcome.sound b) u v =
             subst (λ (y : Comes). Says y d d' q) (sym (once-low h (length d) (length room) rs gs ts l low ∙ ap (of_books h (length d)) u)) (s b v low l)
         go (Outcome.refused r f at) u v =
-            let w : K.Sound n m ≡ K.Refused r f at = sym k ∙ e ∙ ap books_read u in
+            let w : Ok k ≡ books_read (Outcome.refused r f at) = sym i ∙ e ∙ ap books_read u in
             let z : ◌≡◌ {A = ℕ} 0 1 = cc in
             absurd (omega arith)
 

@@ -7,7 +7,8 @@ use Rattle.harrop.specs.Place.{at_start}
 use Rattle.packet.specs.File.{most_bytes, Books}
 use Rattle.packet.specs.Sound.{SoundBooks}
 use Rattle.room.specs.Layout.{words}
-use Rattle.room.specs.Where.{Means, files_of}
+use Rattle.room.specs.Where.{Means}
+use Rattle.room.specs.Files.{Files}
 use Rattle.room.specs.Start.{start}
 use Rattle.proving.specs.Provable.{is_some}
 use Rattle.proving.specs.Stock.{Stock}
@@ -18,34 +19,34 @@ use Rattle.proposal.specs.declared.Proposal.{Proposal}
 use Rattle.proposal.specs.Proposed.{most_height, Comes, first_strip, unless_long, of_first, comes_to, proposal, over, left}
 
 -- a packet is set out: its root place stands in the room, which has enough words for the height, and what the search keeps there is right
-pub record SetOut (h : ℕ) (rs gs ts room : List ℕ) (b : Books) : Type 0 where
+pub record SetOut (h : ℕ) (f : Files) (room : List ℕ) (b : Books) : Type 0 where
   pub low : h ≤ most_height
   pub long : words ≤ length room
-  pub place : Means (files_of rs gs ts) room b.rules b.candidates start [] (at_start b.rules) [] b.goal
-  pub stock : Stock (files_of rs gs ts) b.rules b.candidates 0 (at_start b.rules) room
+  pub place : Means f room b.rules b.candidates start [] (at_start b.rules) [] b.goal
+  pub stock : Stock f b.rules b.candidates 0 (at_start b.rules) room
 
 -- the room made so that a packet that is read is set out
-abbrev pub Setting : List ℕ → List ℕ → List ℕ → List ℕ → Type 0
-Setting rs ts room after = (h : ℕ) (gs : List ℕ) (b : Books) → SoundBooks rs gs ts b → h ≤ most_height → words ≤ length room → SetOut h rs gs ts after b
+abbrev pub Setting : Files → List ℕ → List ℕ → Type 0
+Setting f room after = (h : ℕ) (b : Books) → SoundBooks f.rules f.goal f.terms b → h ≤ most_height → words ≤ length room → SetOut h f after b
 
 -- whether there is a strip within the height; the packet stays set out
-pub record Told (h : ℕ) (rs gs ts after : List ℕ) (b : Books) (r : Bool) : Type 0 where
-  pub stays : SetOut h rs gs ts after b
+pub record Told (h : ℕ) (f : Files) (after : List ℕ) (b : Books) (r : Bool) : Type 0 where
+  pub stays : SetOut h f after b
   pub answer : r ≡ is_some (first_strip h b)
 
-abbrev pub Telling : ℕ → List ℕ → List ℕ → List ℕ → List ℕ → List ℕ → Bool → Type 0
-Telling h rs gs ts room after r = (b : Books) → SetOut h rs gs ts room b → Told h rs gs ts after b r
+abbrev pub Telling : ℕ → Files → List ℕ → List ℕ → Bool → Type 0
+Telling h f room after r = (b : Books) → SetOut h f room b → Told h f after b r
 
 -- the height and nodes of the first strip, its length as far as it is counted, and its bytes in front of a scratch buffer that has room for them
-pub record Measured (h : ℕ) (rs gs ts after z z' : List ℕ) (b : Books) (S : Strip) (r : Drawn) : Type 0 where
-  pub stays : SetOut h rs gs ts after b
+pub record Measured (h : ℕ) (f : Files) (after z z' : List ℕ) (b : Books) (S : Strip) (r : Drawn) : Type 0 where
+  pub stays : SetOut h f after b
   pub high : r.height ≡ height S
   pub many : r.nodes ≡ nodes S
   pub long : r.at ≡ counted (length (written S))
   pub bytes : length (written S) ≤ length z → length (written S) ≤ most_bytes → z' ≡ over (written S) z
 
-abbrev pub Measuring : ℕ → List ℕ → List ℕ → List ℕ → List ℕ → List ℕ → List ℕ → List ℕ → Drawn → Type 0
-Measuring h rs gs ts room after z z' r = (b : Books) (S : Strip) → SetOut h rs gs ts room b → first_strip h b ≡ some S → Measured h rs gs ts after z z' b S r
+abbrev pub Measuring : ℕ → Files → List ℕ → List ℕ → List ℕ → List ℕ → Drawn → Type 0
+Measuring h f room after z z' r = (b : Books) (S : Strip) → SetOut h f room b → first_strip h b ≡ some S → Measured h f after z z' b S r
 
 -- an answer and the buffer behind it, as a search comes to them
 pub record Says (x : Comes) (d d' : List ℕ) (r : Proposal) : Type 0 where
@@ -53,17 +54,17 @@ pub record Says (x : Comes) (d d' : List ℕ) (r : Proposal) : Type 0 where
   pub strip : d' ≡ left x d
 
 -- the first strip fills the front of a buffer that has room for it, and a buffer that has not is as it came; with the answer
-abbrev pub Filling : ℕ → List ℕ → List ℕ → List ℕ → List ℕ → List ℕ → List ℕ → Proposal → Type 0
-Filling h rs gs ts room d d' r = (b : Books) (S : Strip) → SetOut h rs gs ts room b → first_strip h b ≡ some S → Says (unless_long (length d) S) d d' r
+abbrev pub Filling : ℕ → Files → List ℕ → List ℕ → List ℕ → Proposal → Type 0
+Filling h f room d d' r = (b : Books) (S : Strip) → SetOut h f room b → first_strip h b ≡ some S → Says (unless_long (length d) S) d d' r
 
 -- the same of a strip that is drawn whole in the scratch buffer `z'`, wherever it was drawn from
 abbrev pub Handing : List ℕ → Drawn → List ℕ → List ℕ → Proposal → Type 0
-Handing z' m d d' r = (h : ℕ) (rs gs ts room after z : List ℕ) → length z' ≡ length z → Measuring h rs gs ts room after z z' m → Filling h rs gs ts room d d' r
+Handing z' m d d' r = (h : ℕ) (f : Files) (room after z : List ℕ) → length z' ≡ length z → Measuring h f room after z z' m → Filling h f room d d' r
 
 -- a packet that is read, with a height that may be asked for and room enough
-abbrev pub Searching : ℕ → List ℕ → List ℕ → List ℕ → List ℕ → List ℕ → List ℕ → Proposal → Type 0
-Searching h rs gs ts room d d' r =
-    (b : Books) → SoundBooks rs gs ts b → h ≤ most_height → words ≤ length room → Says (of_first (length d) (first_strip h b)) d d' r
+abbrev pub Searching : ℕ → Files → List ℕ → List ℕ → List ℕ → Proposal → Type 0
+Searching h f room d d' r =
+    (b : Books) → SoundBooks f.rules f.goal f.terms b → h ≤ most_height → words ≤ length room → Says (of_first (length d) (first_strip h b)) d d' r
 
 -- any height and files, with room enough
 abbrev pub Answering : ℕ → List ℕ → List ℕ → List ℕ → List ℕ → List ℕ → List ℕ → Proposal → Type 0

@@ -1,5 +1,6 @@
 // A search in three parts, once the room is set out: whether there is a strip, the strip drawn with its measures, and its bytes copied. The buffer is touched by the last of them alone,
 // when the whole answer is known (document 01, "Which strip the search writes", "What comes back").
+// Kept: files, room and place stay parameters of their own. The room is written and comes back as another, the place is another at each call, and a struct of them would be made anew there.
 ghost use Rattle.std.specs.Prelude.{◌≡◌, min, ◌≤◌, length};
 ghost use Rattle.packet.specs.File.{most_bytes};
 ghost use Rattle.packet.specs.declared.File.TheVariants as F;
@@ -14,15 +15,18 @@ use packet::{File, Reason};
 use pen::put;
 use proposal::Proposal;
 use provable::prove_goal;
-use reader::{Read, read_books};
+use reader::read_books;
+use room::{Files, Source};
 use start::{fill_tables, first_place};
 use table::empty_all;
 use writer::write_goal;
 
 // The room as a search needs it: the tables of rules and candidates, their numbers, the heads of rules and their arguments, and an empty table of atoms.
-fn set_out<'a>(rules: &'a [u8], terms: &'a [u8], room: &mut [u32])
-    ensures { Setting rules.now terms.now room.old room.new }
+fn set_out(files: &Files, room: &mut [u32])
+    ensures { Setting files.now room.old room.new }
 {
+    let rules = files.file(Source::Rules);
+    let terms = files.file(Source::Terms);
     fill_tables(rules, terms, room);
     fill_keys(rules, terms, room);
     fill_heads(rules, room);
@@ -31,37 +35,24 @@ fn set_out<'a>(rules: &'a [u8], terms: &'a [u8], room: &mut [u32])
 }
 
 // Whether there is a strip within the height.
-fn has_proof<'a>(
-    rules: &'a [u8],
-    goal: &'a [u8],
-    terms: &'a [u8],
-    height: usize,
-    room: &mut [u32],
-) -> bool
-    ensures { Telling height rules.now goal.now terms.now room.old room.new result }
+fn has_proof(files: &Files, height: usize, room: &mut [u32]) -> bool
+    ensures { Telling height files.now room.old room.new result }
 {
-    prove_goal(rules, goal, terms, room, first_place(), height)
+    prove_goal(files, room, first_place(), height)
 }
 
 // The first strip drawn into the scratch buffer, as far as that has room, and its height, nodes and length.
-fn measure<'a>(
-    rules: &'a [u8],
-    goal: &'a [u8],
-    terms: &'a [u8],
-    height: usize,
-    scratch: &mut [u8],
-    room: &mut [u32],
-) -> Drawn
-    ensures { Measuring height rules.now goal.now terms.now room.old room.new scratch.old scratch.new result }
+fn measure(files: &Files, height: usize, scratch: &mut [u8], room: &mut [u32]) -> Drawn
+    ensures { Measuring height files.now room.old room.new scratch.old scratch.new result }
 {
-    write_goal(rules, goal, terms, room, scratch, first_place(), height, 0)
+    write_goal(files, room, scratch, first_place(), height, 0)
 }
 
 // The longest strip that a buffer of so many bytes may get.
 fn longest(size: usize) -> usize
     ensures { result ≡ min size most_bytes }
 {
-    if size <= 16384 { size } else { 16384 }
+    size.min(16384)
 }
 
 // A refusal that no file is at fault for.
@@ -99,18 +90,11 @@ fn hand_over(strip: &mut [u8], scratch: &[u8], first: Drawn) -> Proposal
 }
 
 // The first strip, where there is one, drawn with as many bytes as a strip may have.
-fn write_long<'a>(
-    rules: &'a [u8],
-    goal: &'a [u8],
-    terms: &'a [u8],
-    height: usize,
-    strip: &mut [u8],
-    room: &mut [u32],
-) -> Proposal
-    ensures { Filling height rules.now goal.now terms.now room.old strip.old strip.new result }
+fn write_long(files: &Files, height: usize, strip: &mut [u8], room: &mut [u32]) -> Proposal
+    ensures { Filling height files.now room.old strip.old strip.new result }
 {
     let mut scratch = [0u8; 16384];
-    let first = measure(rules, goal, terms, height, &mut scratch, room);
+    let first = measure(files, height, &mut scratch, room);
     if 16384 < first.at {
         return too_long();
     }
@@ -119,40 +103,27 @@ fn write_long<'a>(
 
 // The first strip, where there is one. Nearly every strip is short, and a short scratch buffer costs less to make; a longer strip is drawn once more. The buffers are made here, so
 // that a search without a proof does not pay for them.
-fn write<'a>(
-    rules: &'a [u8],
-    goal: &'a [u8],
-    terms: &'a [u8],
-    height: usize,
-    strip: &mut [u8],
-    room: &mut [u32],
-) -> Proposal
-    ensures { Filling height rules.now goal.now terms.now room.old strip.old strip.new result }
+// Kept: the two sizes are two functions; one with the size as a const parameter would need a `requires` that so many bytes are no more than there can be.
+fn write(files: &Files, height: usize, strip: &mut [u8], room: &mut [u32]) -> Proposal
+    ensures { Filling height files.now room.old strip.old strip.new result }
 {
     let mut scratch = [0u8; 2048];
-    let first = measure(rules, goal, terms, height, &mut scratch, room);
+    let first = measure(files, height, &mut scratch, room);
     if 2048 < first.at {
-        return write_long(rules, goal, terms, height, strip, room);
+        return write_long(files, height, strip, room);
     }
     hand_over(strip, &scratch, first)
 }
 
 // The search of a packet that is read.
-fn search_goal<'a>(
-    rules: &'a [u8],
-    goal: &'a [u8],
-    terms: &'a [u8],
-    height: usize,
-    strip: &mut [u8],
-    room: &mut [u32],
-) -> Proposal
-    ensures { Searching height rules.now goal.now terms.now room.old strip.old strip.new result }
+fn search_goal(files: &Files, height: usize, strip: &mut [u8], room: &mut [u32]) -> Proposal
+    ensures { Searching height files.now room.old strip.old strip.new result }
 {
-    set_out(rules, terms, room);
-    if !has_proof(rules, goal, terms, height, room) {
+    set_out(files, room);
+    if !has_proof(files, height, room) {
         return refused(Reason::NoProof);
     }
-    write(rules, goal, terms, height, strip, room)
+    write(files, height, strip, room)
 }
 
 // The height and the three files, with room enough. What is left in the room does not matter.
@@ -170,11 +141,11 @@ pub(crate) fn search_files<'a>(
         return refused(Reason::Height);
     }
     match read_books(rules, goal, terms) {
-        Read::Refused(reason, file, _) => Proposal::Refused {
-            reason,
-            file,
+        Err(x) => Proposal::Refused {
+            reason: x.reason,
+            file: x.file,
             place: 0,
         },
-        Read::Sound(_, _) => search_goal(rules, goal, terms, height, strip, room),
+        Ok(_) => search_goal(&Files::new(rules, goal, terms), height, strip, room),
     }
 }

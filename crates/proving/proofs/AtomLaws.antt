@@ -8,12 +8,15 @@ use mathlib.Core.List.{List}
 use lib.Dec.{ltb, eqb}
 use lib.ListN.{length, get_or}
 use borrow.Author.Tests.{ltb-true, ltb-false, eqb-true, eqb-false}
+use Rattle.std.specs.Prelude.{Option, Some, None}
+use Rattle.std.proofs.lemmas.Option.{none-some, same_Some}
 use Rattle.harrop.specs.Formula.{Term, Atom, Goal, Clause}
 use Rattle.harrop.specs.Bindings.{Bindings, replaced_atom}
 use Rattle.harrop.specs.Place.{Hand, Plain, listed}
 use Rattle.packet.specs.declared.Word.TheVariants as W
 use Rattle.room.specs.Layout.{rules_word}
-use Rattle.room.specs.Where.{Files, plus}
+use Rattle.room.specs.Where.{plus}
+use Rattle.room.specs.Files.{Files}
 use Rattle.room.specs.declared.Where.{Where}
 use Rattle.equal.proofs.AtomLaws.{atom-at}
 use Rattle.heads.proofs.HeadLaws.{goal-is}
@@ -22,11 +25,10 @@ use Rattle.keys.specs.Keys.{PredicateKeyAt, AtomKeyAt, NextClause}
 use Rattle.table.specs.Slots.{words_in}
 use Rattle.table.specs.Recall.{Says, Recalls, TableOnly}
 use Rattle.table.specs.Recall as table
-use Rattle.table.specs.declared.Recalled.{Recalled}
 use Rattle.proving.specs.Provable as spec
 use Rattle.proving.specs.Hand.{RuleNumber}
 use Rattle.proving.specs.Stock.{Chooses, Stock, Keeps}
-use Rattle.proving.specs.Proving.{Ready, ProvingAs, ProvingBy, Finding, Deciding}
+use Rattle.proving.specs.Proving.{Ready, ProvingAs, ProvingBy, FirstOf, Finding, Deciding}
 use Rattle.proving.specs.Filling.{LocatingFirst}
 use Rattle.proving.proofs.WalkLaws.{any-no}
 use Rattle.proving.proofs.TruthLaws.{passed_over}
@@ -104,41 +106,45 @@ module _ {f : Files} {room : List ℕ} {w : Where} {left predicate key : ℕ} wh
       let r' = ready-kept kept' l' r in
       (kept', before-next (does us left o c bs a) k m early (sym y.answer ∙ z) (passed_over r' e e' h))
 
-  pub find-hit : {now after : List ℕ} {s : Bool} (k n : ℕ) → k < n → n ≡ plus (get_or room rules_word 0) w.supposed → FindLeft f room w predicate key left now k → length now ≡ length room → ProvingBy f now after w k left s → s ≡ true → Finding f room after w predicate key left k
+  pub find-hit : {now after : List ℕ} {s : Bool} (k n : ℕ) → k < n → n ≡ plus (get_or room rules_word 0) w.supposed → FindLeft f room w predicate key left now k → length now ≡ length room → ProvingBy f now after w k left s → s ≡ true → Finding f room after w predicate key left (Some k)
   find-hit {now} {after} k n b q inv l p z ds us o c bs a r e e' =
       let (kept, early) = inv ds us o c bs a r e e' in
       let y = p ds us o c bs a (ready-kept kept l r) in
-      record { kept = keeps_then room now after (omega arith) (omega arith) kept y.kept; few = omega (arith, at-hand r); before = early; here = λ m. sym y.answer ∙ z }
+      record {
+        kept = keeps_then room now after (omega arith) (omega arith) kept y.kept;
+        one = λ m g. subst (FirstOf (length c) (does us left o c bs a)) (same_Some k m g) (record { few = omega (arith, at-hand r); before = early; here = sym y.answer ∙ z });
+        none = λ g. absurd (none-some k (sym g));
+      }
 
-  pub find-done : {now : List ℕ} (k n : ℕ) → n ≤ k → n ≡ plus (get_or room rules_word 0) w.supposed → FindLeft f room w predicate key left now k → Finding f room now w predicate key left n
+  pub find-done : {now : List ℕ} (k n : ℕ) → n ≤ k → n ≡ plus (get_or room rules_word 0) w.supposed → FindLeft f room w predicate key left now k → Finding f room now w predicate key left None
   find-done k n b q inv ds us o c bs a r e e' =
       let (kept, early) = inv ds us o c bs a r e e' in
-      record { kept = kept; few = omega (arith, at-hand r); before = λ j l. early j (omega arith); here = λ m. absurd (omega (arith, at-hand r)) }
+      record { kept = kept; one = λ m g. absurd (none-some m g); none = λ g j l. early j (omega (arith, at-hand r)) }
 
   -- what was found decides, and may be kept
-  pub decide-none : {mid after : List ℕ} {k n height : ℕ} (at : ℕ) → Finding f room mid w predicate key left k → length mid ≡ length room → n ≡ plus (get_or mid rules_word 0) w.supposed → n ≤ k → height ≡ plus left 1 → TableOnly mid after → table.Keeps f mid after w height at false 0 → Deciding f room after w predicate key at left false
-  decide-none {mid} {after} {height = height} at p l q b e only kp ds us o c bs a r n n' z =
+  pub decide-none : {mid after : List ℕ} {s : Option ℕ} {height : ℕ} (at : ℕ) → Finding f room mid w predicate key left s → s ≡ None → length mid ≡ length room → height ≡ plus left 1 → TableOnly mid after → table.Keeps f mid after w height at false 0 → Deciding f room after w predicate key at left false
+  decide-none {mid} {after} {height = height} at p gone l e only kp ds us o c bs a r n n' z =
       let x = p ds us o c bs a r n n' in
       let r' = ready-kept x.kept l r in
-      let so = none-does us left o c bs a (λ j m. x.before j (omega (arith, at-hand r'))) in
+      let so = none-does us left o c bs a (x.none gone) in
       record { kept = keeps_then room mid after (omega arith) (omega arith) x.kept (keeps_entry r' height at 0 (omega (arith, r.enough.supposed)) z so (omega arith) (λ y l. absurd (omega arith)) only kp); answer = sym so }
 
-  pub decide-fact : {mid : List ℕ} {k n : ℕ} (at : ℕ) → Finding f room mid w predicate key left k → length mid ≡ length room → n ≡ plus (get_or mid rules_word 0) w.supposed → k < n → Deciding f room mid w predicate key at left true
-  decide-fact {k = k} at p l q b ds us o c bs a r n n' z =
+  pub decide-fact : {mid : List ℕ} {s : Option ℕ} {k : ℕ} (at : ℕ) → Finding f room mid w predicate key left s → s ≡ Some k → Deciding f room mid w predicate key at left true
+  decide-fact {k = k} at p q ds us o c bs a r n n' z =
       let x = p ds us o c bs a r n n' in
-      let m : k < length c = omega (arith, at-hand (ready-kept x.kept l r)) in
-      record { kept = x.kept; answer = sym (one-does us left o c bs a k m (x.here m)) }
+      let m = x.one k q in
+      record { kept = x.kept; answer = sym (one-does us left o c bs a k m.few m.here) }
 
-  pub decide-some : {mid after : List ℕ} {k n height number : ℕ} (at : ℕ) → Finding f room mid w predicate key left k → LocatingFirst f room mid w predicate key left k → length mid ≡ length room → n ≡ plus (get_or mid rules_word 0) w.supposed → k < n → height ≡ plus left 1 → RuleNumber mid k number → TableOnly mid after → table.Keeps f mid after w height at true number → Deciding f room after w predicate key at left true
-  decide-some {mid} {after} {k} {height = height} {number = number} at p located l q b e rule only kp ds us o c bs a r n n' z =
+  pub decide-some : {mid after : List ℕ} {s : Option ℕ} {k height number : ℕ} (at : ℕ) → Finding f room mid w predicate key left s → LocatingFirst f room mid w predicate key left s → s ≡ Some k → length mid ≡ length room → height ≡ plus left 1 → RuleNumber mid k number → TableOnly mid after → table.Keeps f mid after w height at true number → Deciding f room after w predicate key at left true
+  decide-some {mid} {after} {k = k} {height = height} {number = number} at p located q l e rule only kp ds us o c bs a r n n' z =
       let x = p ds us o c bs a r n n' in
       let r' = ready-kept x.kept l r in
-      let m : k < length c = omega (arith, at-hand r') in
-      let so = one-does us left o c bs a k m (x.here m) in
+      let m = x.one k q in
+      let so = one-does us left o c bs a k m.few m.here in
       let counted = r'.place.booked.rules.counted in
       let by : 0 < number → (i : ℕ) → Chooses us left o c (replaced_atom us bs a) (number - 1) (words_in mid w.top i) = λ y i.
       subst (λ (j : ℕ). Chooses us left o c (replaced_atom us bs a) j (words_in mid w.top i)) {x = k} {y = number - 1} (omega (arith, (rule y).1))
-      (chooses mid w.top k i m (λ h there. (r'.place.hand.rule k h (omega (arith, (rule y).0)) there).0) x.before (x.here m) (located ds us o c bs a r n n')) in
+      (chooses mid w.top k i m.few (λ h there. (r'.place.hand.rule k h (omega (arith, (rule y).0)) there).0) m.before m.here (located k q ds us o c bs a r n n')) in
       record { kept = keeps_then room mid after (omega arith) (omega arith) x.kept (keeps_entry r' height at number (omega (arith, r.enough.supposed)) z so (small mid k number (omega (arith, counted, r'.place.booked.rules.few)) rule) (λ y. by) only kp); answer = sym so }
 
   -- an atom that no clause can serve, and one that is decided
@@ -160,7 +166,7 @@ module _ {f : Files} {room : List ℕ} {w : Where} {left predicate key : ℕ} wh
       d ds us o c bs a r m m' z)
 
 -- an atom that the table has
-pub atom-recalled : {f : Files} {room : List ℕ} {w : Where} {left height : ℕ} (at : ℕ) (k : Recalled) (s : Bool) → height ≡ plus left 1 → at % 16 ≡ 0 → Recalls f room w height at k → ((b : Bool) → Says b k → b ≡ s) → ProvingAs W.Atom f room room w left s
+pub atom-recalled : {f : Files} {room : List ℕ} {w : Where} {left height : ℕ} (at : ℕ) (k : Option Bool) (s : Bool) → height ≡ plus left 1 → at % 16 ≡ 0 → Recalls f room w height at k → ((b : Bool) → Says b k → b ≡ s) → ProvingAs W.Atom f room room w left s
 atom-recalled {f} {room} {w} {left} {height} at k s e z h said ds us o c bs g t =
     let (a, u) = goal-is g t in
     subst (Claim f room room ds us w (suc left) o c bs s) (sym u)

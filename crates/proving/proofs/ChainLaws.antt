@@ -1,5 +1,5 @@
 -- A chain of `some`, found by its words, and searched like the body of a clause with no head to compare: it has a proof exactly if the frame of its variables can be completed so that what stands inside has one, within what is left of the height (document 01, "Which strip the search writes"; document 02, Three: no verdict and no strip changes).
-use Prim.Native.Nat.{ℕ, zero, suc, ◌+◌, ◌-◌, ◌≤◌, ◌<◌}
+use Prim.Native.Nat.{ℕ, zero, suc, ◌+◌, ◌-◌, ◌≤◌}
 use native.Mathlib.Omega.{arith}
 use mathlib.Core.Path.{◌≡◌, refl, sym, ◌∙◌, ap, ap₂, subst}
 use mathlib.Core.Bool.{Bool, true, false, ◌&&◌, ◌||◌}
@@ -17,7 +17,8 @@ use Rattle.reader.specs.WordAt.{WordAt}
 use Rattle.packet.specs.Written.{goal_sexp}
 use Rattle.packet.specs.Barred.{goal_ok}
 use Rattle.packet.specs.File.{most_bytes}
-use Rattle.room.specs.Where.{Files, plus}
+use Rattle.room.specs.Where.{plus}
+use Rattle.room.specs.Files.{Files}
 use Rattle.room.specs.declared.Spot.{Spot}
 use Rattle.room.proofs.NestLaws.{goal-nests}
 use Rattle.room.proofs.WhereLaws.{plus-inside}

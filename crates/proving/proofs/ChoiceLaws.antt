@@ -12,7 +12,6 @@ use Rattle.harrop.specs.Bindings.{Bindings, replaced_atom}
 use Rattle.harrop.specs.Place.{AtHand, Hand, Plain, listed}
 use Rattle.table.specs.Slots.{words_in}
 use Rattle.proving.specs.Provable.{through, ending, clause_does, provable, serves, passes}
-use Rattle.proving.specs.Parts.{is_plain, quantifiers, core}
 use Rattle.proving.specs.First.{FirstFrame, Forcing, steps_of, PathIn, Located}
 use Rattle.proving.specs.Stock.{units, Chooses, choice}
 use Rattle.proving.specs.Filling.{LocatedAt}

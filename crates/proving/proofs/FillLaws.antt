@@ -1,6 +1,6 @@
 -- A clause searched for an atom with its own variables unset at first: its body looked at, its frame filled variable by variable, and the whole clause (document 02, Three: the head decides before candidates are tried, and a goal of a body is looked at as soon as its variables are set).
 -- Each law ends in the contract of a function of crate provable, src/provable.
-use Prim.Native.Nat.{ℕ, zero, suc, ◌+◌, ◌-◌, ◌≤◌, ◌<◌}
+use Prim.Native.Nat.{ℕ, suc, ◌+◌, ◌-◌, ◌≤◌, ◌<◌}
 use native.Mathlib.Omega.{arith}
 use mathlib.Core.Path.{◌≡◌, refl, sym, ◌∙◌, ap, ap₂, subst}
 use mathlib.Core.Bool.{Bool, true, false, ◌&&◌, not, false≢true}
@@ -16,10 +16,9 @@ use Rattle.basics.specs.Text.{octets}
 use Rattle.harrop.specs.declared.Binding.{Binding}
 use Rattle.harrop.specs.declared.Binding.TheVariants.{Candidate}
 use Rattle.harrop.specs.Formula.{Term, Atom, Goal, Clause}
-use Rattle.harrop.specs.Bindings.{Bindings, replaced_atom, same_atom}
+use Rattle.harrop.specs.Bindings.{Bindings}
 use Rattle.harrop.specs.Place.{Hand, Plain, listed, allowed}
-use Rattle.sexp.specs.declared.skip.After.{After}
-use Rattle.sexp.specs.declared.skip.After.TheVariants as A
+use Rattle.std.specs.Prelude.{Option, Some, None, is_some}
 use Rattle.sexp.specs.Past.{PastAt}
 use Rattle.sexp.specs.Sexp.{Stands, nesting}
 use Rattle.packet.specs.declared.Word.{Word}
@@ -33,40 +32,34 @@ use Rattle.rows.proofs.TableLaws.{out}
 use Rattle.room.specs.Layout.{levels, candidates_word, highest_word, stack}
 use Rattle.room.specs.Frame.{binding_word, held, bindings_in, bound_to}
 use Rattle.room.specs.Spot.{bindings_at}
-use Rattle.equal.specs.Term.{SameAtoms}
-use Rattle.room.specs.Where.{Files, Live, Kept, within}
+use Rattle.room.specs.Where.{Live, Kept, within}
+use Rattle.room.specs.Files.{Files}
 use Rattle.room.specs.declared.Spot.{Spot}
 use Rattle.room.specs.declared.Where.{Where}
-use Rattle.equal.proofs.AtomLaws.{same-there}
 use Rattle.room.proofs.FrameLaws.{frame-length, frames-alike, bound-in, binding-word}
 use Rattle.room.proofs.WhereLaws.{file-small, plus-inside}
-use Rattle.mentions.specs.Open.{unset, is_unset, is_open, asked, Becomes}
+use Rattle.mentions.specs.Open.{unset, is_unset, is_open, asked}
 use Rattle.mentions.specs.Mentions.{mentions_goal}
 use Rattle.heads.specs.Heads.{clause_word}
 use Rattle.heads.proofs.HeadLaws.{goal-says, goal-is, clause-says, heads, first_part, second-found, first_found, part-stands}
 use Rattle.held.specs.Held.{Holding}
-use Rattle.unset.specs.Unset.{MayBe}
 use Rattle.proving.specs.Stock.{Stock, Keeps}
 use Rattle.proving.specs.Provable.{provable}
 use Rattle.proving.specs.Hand.{deeper, Opened}
 use Rattle.proving.specs.Proving.{Ready, Taken, Answers, Proving, ProvingAs, ProvingBy, Passing, passes}
 use Rattle.proving.specs.Parts.{PartsAt, PartsOf, ClauseParts, CoreAt, is_plain, quantifiers, core, head_of, variable_word, body_place, with_head}
 use Rattle.proving.specs.Frames.{alls, unsets, set_to, Completes}
-use Rattle.proving.specs.First.{FirstFrame, Forcing, Located}
+use Rattle.proving.specs.First.{FirstFrame, Located}
 use Rattle.proving.specs.Filling.{Looks, Seen, Dues, BodySeen, Looking, LookingAs, LookingOne, HeadIn, PartsIn, Filling, MayFit, Fits, floor, Unsets, Fillable, Meets, Meeting, LookedNew, SoFar, LookingBody, FillingFrom, FillingEach, LeavesBut, Filled, Fails, FilledWith, FillingWith, Starting, PassingParts, LocatingSome}
 use Rattle.proving.specs.Chain.{chain, inside, headless, ChainAt, ChainOf}
-use Rattle.proving.specs.declared.Chosen.{Chosen}
-use Rattle.proving.specs.declared.Chosen.TheVariants as C
 use Rattle.proving.specs.declared.plain.Parts.{Parts}
-use Rattle.proving.specs.declared.Going.{Going}
-use Rattle.proving.specs.declared.Going.TheVariants as G
 use Rattle.proving.proofs.StockLaws.{keeps_same, keeps_then, keeps-less}
 use Rattle.proving.proofs.ReadyLaws.{may-be, allowed-below, ready-kept, ready-part}
 use Rattle.proving.proofs.ProvingLaws.{bytes_at, both_of}
 use Rattle.proving.proofs.HandLaws.{Opens, opened-head}
 use Rattle.proving.proofs.PassingLaws.{clause-there, by-opened}
 use Rattle.proving.proofs.PlainLaws.{word_in, frame-set, others-stay, head_in, parts-over, frame_is, frame-many, frame-ends, filling-over, filling-kept, word-free, filling-set, filling-body, start-keeps, start-filling}
-use Rattle.proving.proofs.CompletesLaws.{unset-is, open-beyond, open-below, open-less, set-open, open-there, open-set, may-set, unsets-open, becomes-less}
+use Rattle.proving.proofs.CompletesLaws.{unset-is, open-beyond, open-below, open-less, set-open, open-there, open-set, may-set, becomes-less}
 use Rattle.proving.proofs.LookedLaws.{looked-one, looks-low, looks-first, looks-second, looks-now}
 use Rattle.proving.proofs.FirstLaws.{unsets-length, forcing-start, located}
 use Rattle.proving.proofs.FillingLaws.{plain-is, alls-fillable, head-differs, body-lacks, set-goes, filled, filled-fillable, looked-all, looked-start}
@@ -109,7 +102,7 @@ module _ {f : Files} {room : List ℕ} {w : Where} {own : ℕ} {also : Bool} {v 
       subst (LookClaim f room room ds us w own also v h o c bs false) (sym m)
       (λ r. record { kept = keeps_same room; says = subst (λ (k : ℕ). Looks us o c own bs also v k (Goal.and x y) false) {x = 0} {y = h} (sym z) (looks-low us o c own bs also v 0 x y) })
 
-  pub both-lost : {mid : List ℕ} {q : After} (h : ℕ) → PastAt (drop w.goal.at (bytes_at f w.goal)) 6 64 q → q ≡ A.Nothing → LookingAs W.And f room mid w own also v h false
+  pub both-lost : {mid : List ℕ} {q : Option ℕ} (h : ℕ) → PastAt (drop w.goal.at (bytes_at f w.goal)) 6 64 q → q ≡ None → LookingAs W.And f room mid w own also v h false
   both-lost {mid} h p e ds us o c bs g n =
       let (x, y, m) = goal-is g n in
       subst (LookClaim f room mid ds us w own also v h o c bs false) (sym m)
@@ -123,7 +116,7 @@ module _ {f : Files} {room : List ℕ} {w : Where} {own : ℕ} {also : Bool} {v 
       let l = looking-at i (subst (λ (b : Bool). Looking f room mid u own also v left b) e p) ds us o c bs x (ready-part r 6 x (first_part (octets "and") heads.0 r.place.framed.stands) (omega arith) (both_of (goal_ok (length bs) x) (goal_ok (length bs) y) r.place.scoped).0) in
       record { kept = l.kept; says = looks-first us o c own bs also v left x y l.says })
 
-  second-says : {left : ℕ} {mid after : List ℕ} {u u' : Where} {q : After} {k : ℕ} {s t : Bool} → u ≡ within w 6 → u' ≡ within w k → PastAt (drop w.goal.at (bytes_at f w.goal)) 6 64 q → q ≡ A.Next k → Looking f room mid u own also v left s → s ≡ true → length mid ≡ length room → Looking f mid after u' own also v left t → LookingAs W.And f room after w own also v (suc left) t
+  second-says : {left : ℕ} {mid after : List ℕ} {u u' : Where} {q : Option ℕ} {k : ℕ} {s t : Bool} → u ≡ within w 6 → u' ≡ within w k → PastAt (drop w.goal.at (bytes_at f w.goal)) 6 64 q → q ≡ Some k → Looking f room mid u own also v left s → s ≡ true → length mid ≡ length room → Looking f mid after u' own also v left t → LookingAs W.And f room after w own also v (suc left) t
   second-says {left} {mid} {after} {u} {k = k} {t = t} i j b e p z l p' ds us o c bs g n =
       let (x, y, m) = goal-is g n in
       subst (LookClaim f room after ds us w own also v (suc left) o c bs t) (sym m)
@@ -138,7 +131,7 @@ module _ {f : Files} {room : List ℕ} {w : Where} {own : ℕ} {also : Bool} {v 
       let n : suc (h - 1) ≡ h = omega arith in
       subst (λ (m : ℕ). LookingAs W.And f room mid w own also v m false) n (first-no {left = h - 1} i p e)
 
-  pub both-second : {mid after : List ℕ} {u u' : Where} {q : After} {k : ℕ} {s t : Bool} (h : ℕ) → (h ≡ 0 → ⊥) → u ≡ within w 6 → u' ≡ within w k → PastAt (drop w.goal.at (bytes_at f w.goal)) 6 64 q → q ≡ A.Next k → Looking f room mid u own also v (h - 1) s → s ≡ true → length mid ≡ length room → Looking f mid after u' own also v (h - 1) t → LookingAs W.And f room after w own also v h t
+  pub both-second : {mid after : List ℕ} {u u' : Where} {q : Option ℕ} {k : ℕ} {s t : Bool} (h : ℕ) → (h ≡ 0 → ⊥) → u ≡ within w 6 → u' ≡ within w k → PastAt (drop w.goal.at (bytes_at f w.goal)) 6 64 q → q ≡ Some k → Looking f room mid u own also v (h - 1) s → s ≡ true → length mid ≡ length room → Looking f mid after u' own also v (h - 1) t → LookingAs W.And f room after w own also v h t
   both-second {after = after} {t = t} h z i j b e p y l p' =
       let n : suc (h - 1) ≡ h = omega arith in
       subst (λ (m : ℕ). LookingAs W.And f room after w own also v m t) n (second-says {left = h - 1} i j b e p y l p')
@@ -172,6 +165,10 @@ module _ {f : Files} {room : List ℕ} {w : Where} (own : ℕ) (also : Bool) (v 
 
   pub due-first : {s : List ℕ} {r : Bool} → s ≡ drop w.goal.at (bytes_at f w.goal) → Holding s 0 0 64 (asked own (bindings_at room w.goal) false v) r → r ≡ false → Dues f room w own also v true
   due-first e k z ds us h o c bs g rd = record { yes = λ q. sym (told own false v rd e k) ∙ z; no = λ q. absurd (false≢true (sym q)) }
+
+  pub due-not : {s : List ℕ} (r : Bool) → s ≡ drop w.goal.at (bytes_at f w.goal) → Holding s 0 0 64 (asked own (bindings_at room w.goal) false v) r → Dues f room w own also v (not r)
+  due-not true e k = due-waits e k refl
+  due-not false e k = due-first e k refl
 
   pub due-new : {s : List ℕ} {r t : Bool} → s ≡ drop w.goal.at (bytes_at f w.goal) → Holding s 0 0 64 (asked own (bindings_at room w.goal) false v) r → r ≡ false → also ≡ true → Holding s 0 0 64 (asked own (bindings_at room w.goal) true v) t → Dues f room w own also v t
   due-new e k z y k' ds us h o c bs g rd =
@@ -443,25 +440,25 @@ module _ {f : Files} {room : List ℕ} {w : Where} {p : Parts} {left : ℕ} wher
       (record { kept = k; answer = alls-fillable us left o c bs a p.own e bs' false n }, λ z. absurd (false≢true z))
 
   -- what the head and the atom leave
-  met : {mid after : List ℕ} (s : Going) {ds : List (Clause Plain)} {us : List Term} {o : List Plain} {c : Hand Plain} {bs : Bindings} {a : Atom} {e : Clause Plain} {bs' : Bindings} → Starting f room ds us w p left o c bs a e bs' → Unsets room mid p.head p.own → Meeting f mid after w p s
+  met : {mid after : List ℕ} (s : Option Parts) {ds : List (Clause Plain)} {us : List Term} {o : List Plain} {c : Hand Plain} {bs : Bindings} {a : Atom} {e : Clause Plain} {bs' : Bindings} → Starting f room ds us w p left o c bs a e bs' → Unsets room mid p.head p.own → Meeting f mid after w p s
       → Keeps (Stock f ds us w.supposed c) w.supposed (floor p) room after × Meets f after ds us w p left o c bs a e (unsets p.own bs') s
   met {mid} {after} s {ds} {us} {o} {c} {bs} {a} {e} {bs'} t u m =
       let (k, n) = m ds us left o c bs a e (unsets p.own bs') (start-filling t u) (λ y es q. t.same y es) in
       (keeps_then room mid after (omega arith) (omega arith) (start-keeps t u) k, n)
 
-  pub plain-settled : {mid after : List ℕ} {s : Going} → Unsets room mid p.head p.own → Meeting f mid after w p s → s ≡ G.Never → PassingParts f room after w p left false
+  pub plain-settled : {mid after : List ℕ} {s : Option Parts} → Unsets room mid p.head p.own → Meeting f mid after w p s → s ≡ None → PassingParts f room after w p left false
   plain-settled {after = after} {s = s} u m n ds us o c bs a e bs' t =
       let (k, st) = met s t u m in
       plain-no t k (subst (Meets f after ds us w p left o c bs a e (unsets p.own bs')) n st)
 
-  pub plain_body : {mid late after : List ℕ} {s : Going} {q : Parts} {b : Bool} → Unsets room mid p.head p.own → Meeting f mid late w p s → s ≡ G.On q → LookingBody f late after w q false 0 left b → b ≡ false → PassingParts f room after w p left false
+  pub plain_body : {mid late after : List ℕ} {s : Option Parts} {q : Parts} {b : Bool} → Unsets room mid p.head p.own → Meeting f mid late w p s → s ≡ Some q → LookingBody f late after w q false 0 left b → b ≡ false → PassingParts f room after w p left false
   plain_body {late = late} {after = after} {s = s} {b = b} u m y looks z ds us o c bs a e bs' t =
       let (k, st) = met s t u m in
       let (headed, is, n) = subst (Meets f late ds us w p left o c bs a e (unsets p.own bs')) y st in
       let seen = subst (λ (x : Parts). LookingBody f late after w x false 0 left b) is looks ds us o c bs a e n.frame n.filling in
       plain-no t (keeps_then room late after (omega arith) (omega arith) k seen.kept) (n.back false (seen.no z))
 
-  pub plain-goes : {mid late last after : List ℕ} {s : Going} {q : Parts} {b r : Bool} → Unsets room mid p.head p.own → Meeting f mid late w p s → s ≡ G.On q → LookingBody f late last w q false 0 left b → b ≡ true → length last ≡ length late → FillingFrom f last after w q p.own left r → PassingParts f room after w p left r
+  pub plain-goes : {mid late last after : List ℕ} {s : Option Parts} {q : Parts} {b r : Bool} → Unsets room mid p.head p.own → Meeting f mid late w p s → s ≡ Some q → LookingBody f late last w q false 0 left b → b ≡ true → length last ≡ length late → FillingFrom f last after w q p.own left r → PassingParts f room after w p left r
   plain-goes {late = late} {last = last} {after = after} {s = s} {b = b} {r = r} u m y looks z len call ds us o c bs a e bs' t =
       let (k, st) = met s t u m in
       let (headed, is, n) = subst (Meets f late ds us w p left o c bs a e (unsets p.own bs')) y st in
@@ -554,17 +551,18 @@ module _ {f : Files} {room : List ℕ} {w : Where} {x : Spot} {p : Parts} {left 
         answer = z.0.answer ∙ ap (λ (e : Clause Plain). passes us left o c bs a e bs') (ap (λ (n : ℕ). alls n (core d)) same ∙ plain-is d plain);
       }
 
-  pub plain-found : {after : List ℕ} {r : Bool} (nest : ℕ) → PartsOf f x 0 64 p → p.found ≡ true → PassingParts f room after w p left r → Passing f room after w x nest left r
+  pub plain-found : {after : List ℕ} {q : Option Parts} {r : Bool} (nest : ℕ) → PartsOf f x 0 64 q → q ≡ Some p → PassingParts f room after w p left r → Passing f room after w x nest left r
   plain-found nest q y m ds us o c bs a d bs' l t =
       let shallow : nesting (clause_sexp d) ≤ 64 = omega (arith, t.framed.shallow) in
       let few : x.count + 64 ≤ most_bytes = omega (arith, t.framed.shallow) in
-      parts-answer t (q.parts d shallow (clause-there t) few (omega arith) y) (sym (q.told d shallow (clause-there t) few (omega arith)) ∙ y) m
+      parts-answer t (q.parts d shallow (clause-there t) few (omega arith) p y) (sym (q.told d shallow (clause-there t) few (omega arith)) ∙ ap (λ (z : Option Parts). is_some z) y) m
 
-  -- every clause with another word is plain
-  pub no-path : (nest : ℕ) (k : Word) → WordAt (drop x.at (bytes_at f x)) 1 k → (k ≡ W.And → ⊥) → (k ≡ W.All → ⊥) → PartsOf f x 0 64 p → p.found ≡ false → Passing f room room w x nest left false
+-- every clause with another word is plain
+module _ {f : Files} {room : List ℕ} {w : Where} {x : Spot} {left : ℕ} where
+  pub no-path : {q : Option Parts} (nest : ℕ) (k : Word) → WordAt (drop x.at (bytes_at f x)) 1 k → (k ≡ W.And → ⊥) → (k ≡ W.All → ⊥) → PartsOf f x 0 64 q → q ≡ None → Passing f room room w x nest left false
   unfolding clause_word
   no-path nest k h and all q y ds us o c bs a d bs' l t =
-      let plain = sym (q.told d (omega (arith, t.framed.shallow)) (clause-there t) (omega (arith, t.framed.shallow)) (omega arith)) ∙ y in
+      let plain = sym (q.told d (omega (arith, t.framed.shallow)) (clause-there t) (omega (arith, t.framed.shallow)) (omega arith)) ∙ ap (λ (z : Option Parts). is_some z) y in
       absurd (go d plain (clause-says (bytes_at f x) x.at d k t.framed.stands h))
     where
       go : (d : Clause Plain) → is_plain d ≡ false → k ≡ clause_word d → ⊥
@@ -574,12 +572,12 @@ module _ {f : Files} {room : List ℕ} {w : Where} {x : Spot} {p : Parts} {left 
       go (Clause.and_d d d') e s = and s
 
 -- clause k for an atom, by its parts, where the room is right on the heads of rules
-pub opened-parts : {f : Files} {room mid : List ℕ} {ds : List (Clause Plain)} {us : List Term} {w : Where} {y : Spot} {left : ℕ} {o : List Plain} {c : Hand Plain} {bs : Bindings} {a : Atom} {k : ℕ} {p : Parts} (z : Opens f room mid ds us w y left o c bs a k) → ClauseParts f mid k y p → p.found ≡ true → PartsAt f y 0 z.clause.clause p × (is_plain z.clause.clause ≡ true)
-opened-parts {y = y} z q e =
+pub opened-parts : {f : Files} {room mid : List ℕ} {ds : List (Clause Plain)} {us : List Term} {w : Where} {y : Spot} {left : ℕ} {o : List Plain} {c : Hand Plain} {bs : Bindings} {a : Atom} {k : ℕ} {q : Option Parts} {p : Parts} (z : Opens f room mid ds us w y left o c bs a k) → ClauseParts f mid k y q → q ≡ Some p → PartsAt f y 0 z.clause.clause p × (is_plain z.clause.clause ≡ true)
+opened-parts {y = y} {p = p} z q e =
     let few : y.count ≤ levels = omega (arith, z.taken.framed.shallow) in
-    (q.parts z.clause.clause (clause-there z.taken) few (opened-head z) e, sym (q.told z.clause.clause (clause-there z.taken) few) ∙ e)
+    (q.parts z.clause.clause (clause-there z.taken) few (opened-head z) p e, sym (q.told z.clause.clause (clause-there z.taken) few) ∙ ap (λ (u : Option Parts). is_some u) e)
 
-pub by_parts : {f : Files} {room mid after : List ℕ} {w : Where} {left : ℕ} {q : Chosen} {y : Spot} {p : Parts} {r : Bool} (k : ℕ) → Opened room mid k w.supposed w.top q → q ≡ C.Clause y → ClauseParts f mid k y p → p.found ≡ true → PassingParts f mid after w p left r → ProvingBy f room after w k left r
+pub by_parts : {f : Files} {room mid after : List ℕ} {w : Where} {left : ℕ} {q : Option Spot} {y : Spot} {s : Option Parts} {p : Parts} {r : Bool} (k : ℕ) → Opened room mid k w.supposed w.top q → q ≡ Some y → ClauseParts f mid k y s → s ≡ Some p → PassingParts f mid after w p left r → ProvingBy f room after w k left r
 by_parts k o e q y m = by-opened k o e λ ds us o c bs a z.
     let (at, plain) = opened-parts z q y in
     parts-answer z.taken at plain m

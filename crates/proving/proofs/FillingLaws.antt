@@ -4,7 +4,7 @@ use Prim.Native.Nat.{ℕ, zero, suc, ◌+◌, ◌-◌, ◌≤◌, ◌<◌}
 use mathlib.Core.Path.{◌≡◌, refl, sym, ◌∙◌, ap, ap₂, subst}
 use mathlib.Core.Bool.{Bool, true, false, ◌&&◌, ◌||◌, false≢true}
 use mathlib.Core.List.{List, ◌∷◌}
-use mathlib.Core.Option.{Option, none, some}
+use mathlib.Core.Option.{some}
 use native.Mathlib.Omega.{arith}
 use lib.Dec.{eqb}
 use lib.ListN.{length, get_elem?}
@@ -15,7 +15,7 @@ use Rattle.harrop.specs.declared.Binding.TheVariants.{Candidate}
 use Rattle.harrop.specs.Formula.{Term, Atom, Goal, Clause}
 use Rattle.harrop.specs.Bindings.{Bindings, nothing, meant, value_of, replaced_atom, same_atom}
 use Rattle.harrop.specs.Place.{Hand, Plain, listed, allowed}
-use Rattle.room.specs.Where.{Files}
+use Rattle.room.specs.Files.{Files}
 use Rattle.room.proofs.FrameLaws.{bound-means}
 use Rattle.mentions.specs.Open.{unset, is_open, Becomes}
 use Rattle.keys.proofs.WalkLaws.{candidate-meant}

@@ -9,6 +9,7 @@ use lib.Dec.{ltb}
 use lib.ListN.{length, get_or, get_elem?, take, drop, length-drop}
 use lib.Seq.{get_or-drop, drop-paste}
 use borrow.Author.Tests.{ltb-true, ltb-false, lt-ltb, le-ltb}
+use Rattle.std.specs.Prelude.{Option, Some, None}
 use Rattle.basics.specs.Choice.{choose}
 use Rattle.harrop.specs.Formula.{Term, Atom, Goal, Clause}
 use Rattle.harrop.specs.Bindings.{Bindings}
@@ -23,105 +24,23 @@ use Rattle.reader.specs.WordAt.{WordAt}
 use Rattle.reader.proofs.WordLaws.{word-answer}
 use Rattle.room.specs.Layout.{levels, rules_word, rule_word, stack}
 use Rattle.room.specs.Frame.{bindings_in, copied}
-use Rattle.room.specs.Spot.{file_of, bindings_at, supposed_in}
-use Rattle.room.specs.Where.{Files, Live, Means, plus}
+use Rattle.room.specs.Spot.{bindings_at, supposed_in}
+use Rattle.room.specs.Files.{Files, file_of}
+use Rattle.room.specs.Where.{Live, Means, plus}
 use Rattle.room.specs.declared.Source.{Source}
 use Rattle.room.specs.declared.Source.TheVariants as S
 use Rattle.room.specs.declared.Spot.{Spot}
 use Rattle.room.specs.declared.Where.{Where}
 use Rattle.room.proofs.FrameLaws.{copied_is, frame-copied, copy-kept, copy-length, word_kept}
 use Rattle.narrow.specs.Heads.{HeadIn}
-use Rattle.proving.specs.Hand.{rule_spot, clause_in, Opened}
+use Rattle.hand.specs.Hand.{rule_spot, clause_in, ClauseAt, HandAt}
+use Rattle.hand.proofs.HandLaws.{rule-chosen, hand-is}
+use Rattle.proving.specs.Hand.{Opened}
 use Rattle.proving.specs.Parts.{HeadSaid}
 use Rattle.proving.specs.Stock.{Stock, Keeps}
 use Rattle.proving.specs.Proving.{Ready, Taken}
-use Rattle.proving.specs.declared.Chosen.{Chosen}
-use Rattle.proving.specs.declared.Chosen.TheVariants as C
 use Rattle.proving.proofs.StockLaws.{stock-low}
 use Rattle.proving.proofs.ReadyLaws.{ready-kept}
-
--- the code's three answers
-module _ (room : List ℕ) (k m a : ℕ) (e : a ≡ get_or room rules_word 0) where
-  pub rule-chosen : (b : ℕ) → k < a → b ≡ get_or room (rule_word k) 0 → C.Clause (record { source = S.Rules; at = b; base = 0; count = 0 }) ≡ clause_in room k m
-  unfolding clause_in
-  rule-chosen b l f = rw (lt-ltb k (get_or room rules_word 0) (omega (arith, e))) (ap (λ (i : ℕ). C.Clause (record { source = S.Rules; at = i; base = 0; count = 0 })) f)
-
-  pub supposed-chosen : (y : Spot) → a ≤ k → k - a < m → y ≡ supposed_in room (k - a) → C.Clause y ≡ clause_in room k m
-  unfolding clause_in
-  supposed-chosen y l n f =
-      rw (le-ltb k (get_or room rules_word 0) (omega (arith, e)), lt-ltb (k - get_or room rules_word 0) m (omega (arith, e)))
-      (ap C.Clause (f ∙ ap (λ (i : ℕ). supposed_in room (k - i)) e))
-
-  pub none-chosen : a ≤ k → m ≤ k - a → C.Nothing ≡ clause_in room k m
-  unfolding clause_in
-  none-chosen l n = rw (le-ltb k (get_or room rules_word 0) (omega (arith, e)), le-ltb (k - get_or room rules_word 0) m (omega (arith, e))) refl
-
--- a clause at hand, where its bindings end below the top
-pub record ClauseAt (f : Files) (room : List ℕ) (x : Spot) (top : ℕ) (d : Clause Plain) (bs : Bindings) : Type 0 where
-  pub stands : Stands (file_of f.rules f.goal f.terms x.source) x.at (clause_sexp d)
-  pub below : x.base + x.count ≤ top
-  pub holds : bindings_at room x ≡ bs
-  pub shallow : x.count + nesting (clause_sexp d) ≤ levels
-  pub scoped : clause_ok (length bs) d ≡ true
-
--- what is at hand under a number
-abbrev pub HandAt : Files → List ℕ → ℕ → Hand Plain → ℕ → Chosen → Type 0
-HandAt f room top c k C.Nothing = get_elem? c k ≡ none
-HandAt f room top c k (C.Clause x) = (h : AtHand Plain) × (get_elem? c k ≡ some h) × ClauseAt f room x top h.clause h.bindings
-
-module _ {f : Files} {room : List ℕ} {ds : List (Clause Plain)} {us : List Term} {w : Where} {o : List Plain} {c : Hand Plain} {bs : Bindings} {g : Goal Plain} (m : Means f room ds us w o c bs g) where
-  rule-at : (k : ℕ) → k < get_or room rules_word 0 → HandAt f room w.top c k (C.Clause (rule_spot room k))
-  unfolding bindings_in
-  rule-at k l =
-      let n = m.booked.rules.counted in
-      let (h, q) = below-member c k (omega (arith, m.hand.number)) in
-      let (b, d) = m.hand.rule k h (omega arith) q in (
-        h,
-        q,
-        record {
-          stands = m.booked.rules.starts k h.clause d;
-          below = omega arith;
-          holds = sym b;
-          shallow = omega (arith, m.booked.shallow k h.clause d);
-          scoped = subst (λ (y : Bindings). clause_ok (length y) h.clause ≡ true) (sym b) (m.booked.scoped k h.clause d);
-        },
-      )
-
-  supposed-at : (j : ℕ) → j < w.supposed → HandAt f room w.top c (length ds + j) (C.Clause (supposed_in room j))
-  supposed-at j l =
-      let (h, q) = below-member c (length ds + j) (omega (arith, m.hand.number)) in
-      let x = m.hand.suppose j h q in (
-        h,
-        q,
-        record {
-          stands = x.stands;
-          below = x.below;
-          holds = x.holds;
-          shallow = x.shallow;
-          scoped = m.hand.scoped j h q;
-        },
-      )
-
-  hand_at : (k : ℕ) → HandAt f room w.top c k (clause_in room k w.supposed)
-  unfolding clause_in
-  hand_at k = go (ltb k (get_or room rules_word 0)) refl
-    where
-      counted : get_or room rules_word 0 ≡ length ds
-      counted = m.booked.rules.counted
-
-      later : (b : Bool) → ltb (k - get_or room rules_word 0) w.supposed ≡ b → get_or room rules_word 0 ≤ k → HandAt f room w.top c k (choose b (C.Clause (supposed_in room (k - get_or room rules_word 0))) C.Nothing)
-      later true t l =
-          subst (λ (i : ℕ). HandAt f room w.top c i (C.Clause (supposed_in room (k - get_or room rules_word 0))))
-          (omega (arith, counted))
-          (supposed-at (k - get_or room rules_word 0) (ltb-true (k - get_or room rules_word 0) w.supposed t))
-      later false t l = beyond-none c k (omega (arith, m.hand.number, counted, ltb-false (k - get_or room rules_word 0) w.supposed t))
-
-      go : (b : Bool) → ltb k (get_or room rules_word 0) ≡ b → HandAt f room w.top c k (choose b (C.Clause (rule_spot room k)) (choose (ltb (k - get_or room rules_word 0) w.supposed) (C.Clause (supposed_in room (k - get_or room rules_word 0))) C.Nothing))
-      go true t = rule-at k (ltb-true k (get_or room rules_word 0) t)
-      go false t = later (ltb (k - get_or room rules_word 0) w.supposed) refl (ltb-false k (get_or room rules_word 0) t)
-
-  pub hand-is : (k : ℕ) (r : Chosen) → clause_in room k w.supposed ≡ r → HandAt f room w.top c k r
-  hand-is k r e = subst (λ (x : Chosen). HandAt f room w.top c k x) e (hand_at k)
 
 -- a frame copied on top leaves the words above it
 copy-above : (room : List ℕ) (base n top : ℕ) → base + n ≤ top → top + n ≤ length room → (i : ℕ) → top + n ≤ i → get_or (copied room base n top) i 0 ≡ get_or room i 0
@@ -142,17 +61,17 @@ pub record Opens (f : Files) (room after : List ℕ) (ds : List (Clause Plain)) 
   pub rule : k < get_or after rules_word 0 → (y.source ≡ S.Rules) × (get_elem? ds k ≡ some clause.clause)
 
 -- the file that a clause at hand is in
-abbrev source_of : Chosen → Source
-source_of C.Nothing = S.Rules
-source_of (C.Clause x) = x.source
+abbrev source_of : Option Spot → Source
+source_of None = S.Rules
+source_of (Some x) = x.source
 
 module _ {f : Files} {room : List ℕ} {ds : List (Clause Plain)} {us : List Term} {w : Where} {left : ℕ} {o : List Plain} {c : Hand Plain} {bs : Bindings} {a : Atom} (r : Ready f room ds us w (suc left) o c bs (Goal.atom a)) where
-  pub opened-none : (k : ℕ) {after : List ℕ} → Opened room after k w.supposed w.top C.Nothing → (get_elem? c k ≡ none) × (after ≡ room)
-  opened-none k (e, n) = (hand-is r.place k C.Nothing e, n)
+  pub opened-none : (k : ℕ) {after : List ℕ} → Opened room after k w.supposed w.top None → (get_elem? c k ≡ none) × (after ≡ room)
+  opened-none k (e, n) = (hand-is r.place k None e, n)
 
-  pub opened-clause : (k : ℕ) {after : List ℕ} {y : Spot} → Opened room after k w.supposed w.top (C.Clause y) → Opens f room after ds us w y left o c bs a k
+  pub opened-clause : (k : ℕ) {after : List ℕ} {y : Spot} → Opened room after k w.supposed w.top (Some y) → Opens f room after ds us w y left o c bs a k
   opened-clause k {after} {y} (x, e, n, q) =
-      let (h, t, b) = hand-is r.place k (C.Clause x) e in
+      let (h, t, b) = hand-is r.place k (Some x) e in
       let high : stack ≤ w.top = omega (arith, r.place.framed.above, r.place.tight) in
       let inside : w.top + x.count ≤ length room = omega (arith, r.enough.bindings, r.long, b.shallow) in
       let front = ap (take w.top) n ∙ copy-kept room x.base x.count w.top b.below inside in
@@ -201,7 +120,7 @@ opened-head {f} {after = after} {k = k} z l b e =
     let (source, member) = z.rule l in
     let rules = z.taken.ready.place.booked.rules in
     let at = (subst (HeadIn after f.rules k) e (z.taken.ready.stock.heads k z.clause.clause member)).1 in
-    subst (λ (s : Source). Stands (file_of f.rules f.goal f.terms s) (get_or after (plus 3968 k) 0) (atom_sexp b)) (sym source)
+    subst (λ (s : Source). Stands (file_of f s) (get_or after (plus 3968 k) 0) (atom_sexp b)) (sym source)
     (subst (λ (i : ℕ). Stands f.rules (get_or after i 0) (atom_sexp b)) {x = 3968 + k} {y = plus 3968 k} (omega (arith, l, rules.counted, rules.few)) at)
 
 -- the offset of the word that says what rule k is, as the code makes it

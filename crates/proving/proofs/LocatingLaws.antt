@@ -6,13 +6,13 @@ use mathlib.Core.Path.{◌≡◌, sym, ◌∙◌, ap, subst}
 use mathlib.Core.Bool.{Bool, true, false, false≢true}
 use mathlib.Core.List.{List}
 use mathlib.Core.Option.{some-injective}
-use lib.ListN.{length, get_or}
+use lib.ListN.{length}
+use Rattle.std.specs.Prelude.{Option, Some, None, is_some}
+use Rattle.std.proofs.lemmas.Option.{none-some, same_Some}
 use Rattle.harrop.specs.Place.{AtHand, Hand, Plain}
 use Rattle.harrop.specs.Formula.{Term, Atom, Clause}
 use Rattle.harrop.specs.Bindings.{Bindings}
-use Rattle.harrop.proofs.ListLaws.{member_below}
-use Rattle.room.specs.Layout.{rules_word}
-use Rattle.room.specs.Where.{Files, plus}
+use Rattle.room.specs.Files.{Files}
 use Rattle.room.specs.declared.Spot.{Spot}
 use Rattle.room.specs.declared.Where.{Where}
 use Rattle.room.proofs.FrameLaws.{frame-length}
@@ -20,13 +20,11 @@ use Rattle.proving.specs.Hand.{Opened}
 use Rattle.proving.specs.Parts.{PartsAt, PartsOf, ClauseParts, is_plain, quantifiers, core}
 use Rattle.proving.specs.Proving.{Taken}
 use Rattle.proving.specs.First.{Located}
-use Rattle.proving.specs.Filling.{floor, PassingParts, Locating, LocatingAt, LocatingFirst, LocatingSome}
-use Rattle.proving.specs.declared.Chosen.{Chosen}
-use Rattle.proving.specs.declared.Chosen.TheVariants as C
+use Rattle.proving.specs.Filling.{floor, PassingParts, Locating, LocatedAt, LocatingAt, LocatingFirst, LocatingSome}
 use Rattle.proving.specs.declared.plain.Parts.{Parts}
 use Rattle.proving.proofs.ReadyLaws.{ready-kept}
 use Rattle.proving.proofs.HandLaws.{Opens, opened-clause}
-use Rattle.proving.proofs.AtomLaws.{at-hand, FindLeft}
+use Rattle.proving.proofs.AtomLaws.{FindLeft}
 use Rattle.proving.proofs.PassingLaws.{clause-there}
 use Rattle.proving.proofs.FillLaws.{starting, opened-parts}
 
@@ -35,9 +33,9 @@ module _ {f : Files} {room after : List ℕ} {w : Where} {x : Spot} {left : ℕ}
   located-no ds us o c bs a d bs' t plain y = absurd (false≢true y)
 
   -- a clause with an `and` leaves nothing
-  pub located-not : {p : Parts} {r : Bool} → PartsOf f x 0 64 p → p.found ≡ false → Locating f room after w x left r
+  pub located-not : {p : Option Parts} {r : Bool} → PartsOf f x 0 64 p → p ≡ None → Locating f room after w x left r
   located-not q n ds us o c bs a d bs' t plain y =
-      absurd (false≢true (sym n ∙ (q.told d (omega (arith, t.framed.shallow)) (clause-there t) (omega (arith, t.framed.shallow)) (omega arith) ∙ plain)))
+      absurd (false≢true (sym (ap (λ (z : Option Parts). is_some z) n) ∙ (q.told d (omega (arith, t.framed.shallow)) (clause-there t) (omega (arith, t.framed.shallow)) (omega arith) ∙ plain)))
 
   -- one without leaves what its parts leave
   pub parts-located : {p : Parts} {r : Bool} {ds : List (Clause Plain)} {us : List Term} {o : List Plain} {c : Hand Plain} {bs : Bindings} {a : Atom} {d : Clause Plain} {bs' : Bindings} → Taken f room ds us w x left o c bs a d bs' → PartsAt f x 0 d p → PassingParts f room after w p left r → r ≡ true → Located us left o c bs a (quantifiers d) (core d) bs' after (x.base + x.count)
@@ -46,14 +44,14 @@ module _ {f : Files} {room after : List ℕ} {w : Where} {x : Spot} {left : ℕ}
       subst (λ (n : ℕ). Located us left o c bs a n (core d) bs' after (x.base + x.count)) {x = p.own} {y = quantifiers d} (omega (arith, at.own))
       (subst (λ (n : ℕ). Located us left o c bs a p.own (core d) bs' after n) {x = floor p} {y = x.base + x.count} (omega (arith, at.base.0, at.count.0, at.own)) L)
 
-  pub located-plain : {p : Parts} {r : Bool} → PartsOf f x 0 64 p → p.found ≡ true → PassingParts f room after w p left r → Locating f room after w x left r
-  located-plain q y m ds us o c bs a d bs' t plain z = parts-located t (q.parts d (omega (arith, t.framed.shallow)) (clause-there t) (omega (arith, t.framed.shallow)) (omega arith) y) m z
+  pub located-plain : {q : Option Parts} {p : Parts} {r : Bool} → PartsOf f x 0 64 q → q ≡ Some p → PassingParts f room after w p left r → Locating f room after w x left r
+  located-plain {p = p} q y m ds us o c bs a d bs' t plain z = parts-located t (q.parts d (omega (arith, t.framed.shallow)) (clause-there t) (omega (arith, t.framed.shallow)) (omega arith) p y) m z
 
 -- the clause of a number, opened on top of the stack
 pub located-no-clause : {f : Files} {room after : List ℕ} {w : Where} {left : ℕ} (k : ℕ) → false ≡ true → LocatingAt f room after w left k
 located-no-clause k y = absurd (false≢true y)
 
-pub located-opened : {f : Files} {room mid after : List ℕ} {w : Where} {left : ℕ} {q : Chosen} {y : Spot} (k : ℕ) → Opened room mid k w.supposed w.top q → q ≡ C.Clause y
+pub located-opened : {f : Files} {room mid after : List ℕ} {w : Where} {left : ℕ} {q : Option Spot} {y : Spot} (k : ℕ) → Opened room mid k w.supposed w.top q → q ≡ Some y
     → ((ds : List (Clause Plain)) (us : List Term) (o : List Plain) (c : Hand Plain) (bs : Bindings) (a : Atom) (z : Opens f room mid ds us w y left o c bs a k) → is_plain z.clause.clause ≡ true → Located us left o c bs a (quantifiers z.clause.clause) (core z.clause.clause) z.clause.bindings after (y.base + y.count))
     → LocatingAt f room after w left k
 located-opened {f} {room} {mid} {after} {w} {left} {y = y} k p e m ds us o c bs a r h there plain =
@@ -64,11 +62,11 @@ located-opened {f} {room} {mid} {after} {w} {left} {y = y} k p e m ds us o c bs 
     subst (λ (g : AtHand Plain). Located us left o c bs a (quantifiers g.clause) (core g.clause) g.bindings after (w.top + length g.bindings)) (sym same)
     (subst (λ (n : ℕ). Located us left o c bs a (quantifiers x.clause.clause) (core x.clause.clause) x.clause.bindings after n) {x = y.base + y.count} {y = w.top + length x.clause.bindings} (omega (arith, x.taken.fresh, many)) L)
 
-pub located-by : {f : Files} {room mid after : List ℕ} {w : Where} {left : ℕ} {q : Chosen} {y : Spot} {s : Bool} (k : ℕ) → Opened room mid k w.supposed w.top q → q ≡ C.Clause y → Locating f mid after w y left s → s ≡ true → LocatingAt f room after w left k
+pub located-by : {f : Files} {room mid after : List ℕ} {w : Where} {left : ℕ} {q : Option Spot} {y : Spot} {s : Bool} (k : ℕ) → Opened room mid k w.supposed w.top q → q ≡ Some y → Locating f mid after w y left s → s ≡ true → LocatingAt f room after w left k
 located-by k p e m z = located-opened k p e λ ds us o c bs a x plain. m ds us o c bs a x.clause.clause x.clause.bindings x.taken plain z
 
 -- by its parts
-pub located-parts : {f : Files} {room mid after : List ℕ} {w : Where} {left : ℕ} {q : Chosen} {y : Spot} {p : Parts} {s : Bool} (k : ℕ) → Opened room mid k w.supposed w.top q → q ≡ C.Clause y → ClauseParts f mid k y p → p.found ≡ true → PassingParts f mid after w p left s → s ≡ true → LocatingAt f room after w left k
+pub located-parts : {f : Files} {room mid after : List ℕ} {w : Where} {left : ℕ} {q : Option Spot} {y : Spot} {v : Option Parts} {p : Parts} {s : Bool} (k : ℕ) → Opened room mid k w.supposed w.top q → q ≡ Some y → ClauseParts f mid k y v → v ≡ Some p → PassingParts f mid after w p left s → s ≡ true → LocatingAt f room after w left k
 located-parts k o e q y m z = located-opened k o e λ ds us o c bs a x plain. parts-located x.taken (opened-parts x q y).0 m z
 
 -- and a `some` that has no proof
@@ -77,8 +75,8 @@ located-no-some y = absurd (false≢true y)
 
 -- the first clause that serves, by its number; past the last there is none
 module _ {f : Files} {room now : List ℕ} {w : Where} {predicate key left : ℕ} where
-  pub located-hit : {after : List ℕ} {s : Bool} (k : ℕ) → FindLeft f room w predicate key left now k → length now ≡ length room → (s ≡ true → LocatingAt f now after w left k) → s ≡ true → LocatingFirst f room after w predicate key left k
-  located-hit k inv l p z ds us o c bs a r e e' = p z ds us o c bs a (ready-kept (inv ds us o c bs a r e e').0 l r)
+  pub located-hit : {after : List ℕ} {s : Bool} (k : ℕ) → FindLeft f room w predicate key left now k → length now ≡ length room → (s ≡ true → LocatingAt f now after w left k) → s ≡ true → LocatingFirst f room after w predicate key left (Some k)
+  located-hit {after} k inv l p z m q ds us o c bs a r e e' = subst (λ (i : ℕ). LocatedAt us left o c bs a w.top after i) (same_Some k m q) (p z ds us o c bs a (ready-kept (inv ds us o c bs a r e e').0 l r))
 
-  pub located-none : (n : ℕ) → n ≡ plus (get_or room rules_word 0) w.supposed → LocatingFirst f room now w predicate key left n
-  located-none n q ds us o c bs a r e e' h there plain = absurd (omega (arith, at-hand r, member_below c n h there))
+  pub located-none : LocatingFirst f room now w predicate key left None
+  located-none m q = absurd (none-some m q)

@@ -14,22 +14,22 @@ use Rattle.harrop.specs.declared.Binding.TheVariants.{Candidate}
 use Rattle.harrop.specs.Formula.{Term, Atom, Goal, Clause}
 use Rattle.harrop.specs.Bindings.{Bindings}
 use Rattle.harrop.specs.Place.{AtHand, Hand, Plain, listed}
-use Rattle.sexp.specs.declared.skip.After.{After}
-use Rattle.sexp.specs.declared.skip.After.TheVariants as A
+use Rattle.std.specs.Prelude as std
+use Rattle.std.specs.Prelude.{Some, None}
 use Rattle.sexp.specs.Past.{PastAt}
 use Rattle.sexp.specs.Sexp.{Sexp, Stands, nesting}
 use Rattle.packet.specs.declared.Word.{Word}
 use Rattle.packet.specs.declared.Word.TheVariants as W
 use Rattle.reader.specs.WordAt.{WordAt}
 use Rattle.packet.specs.declared.Kind.TheVariants as K
-use Rattle.rows.specs.declared.table.Row.TheVariants as R
 use Rattle.rows.specs.Rows.{row_of}
 use Rattle.packet.specs.Table.{due_after}
 use Rattle.packet.specs.Barred.{goal_ok, clause_ok}
 use Rattle.packet.specs.Written.{goal_sexp, clause_sexp}
 use Rattle.room.specs.Layout.{candidates_word, highest_word}
 use Rattle.room.specs.Frame.{binding_word, held, bindings_in}
-use Rattle.room.specs.Where.{Files, Framed, plus, further}
+use Rattle.room.specs.Where.{Framed, plus, further}
+use Rattle.room.specs.Files.{Files}
 use Rattle.room.specs.declared.Spot.{Spot}
 use Rattle.room.specs.declared.Where.{Where}
 use Rattle.room.proofs.FrameLaws.{frame_pushed}
@@ -40,8 +40,6 @@ use Rattle.proving.specs.Hand.{deeper, Opened}
 use Rattle.proving.specs.Provable as spec
 use Rattle.proving.specs.Stock.{Stock, Keeps}
 use Rattle.proving.specs.Proving.{Ready, Taken, Answers, ProvingBy, Passing, PassingAs, PassingWith, passes, passes_with}
-use Rattle.proving.specs.declared.Chosen.{Chosen}
-use Rattle.proving.specs.declared.Chosen.TheVariants as C
 use Rattle.heads.specs.Predicate.{ClauseThere, HasHead}
 use Rattle.proving.proofs.HeadlessLaws.{headless}
 use Rattle.proving.proofs.WalkLaws.{any_here, any_none}
@@ -171,7 +169,7 @@ module _ {f : Files} {room : List ℕ} {w : Where} {x : Spot} {left : ℕ} where
       p ds us o c bs a d bs' (sym (clause-says (bytes_at f x) x.at d k t.framed.stands q) ∙ e) (omega arith) t
 
   -- no clause has any other word
-  pub by-other : (nest : ℕ) (k : Word) → WordAt (drop x.at (bytes_at f x)) 1 k → R.Nothing ≡ row_of (due_after K.Clause k) → Passing f room room w x nest left false
+  pub by-other : (nest : ℕ) (k : Word) → WordAt (drop x.at (bytes_at f x)) 1 k → None ≡ row_of (due_after K.Clause k) → Passing f room room w x nest left false
   by-other nest k q n ds us o c bs a d bs' l t = absurd (clause-has-row d k (clause-says (bytes_at f x) x.at d k t.framed.stands q) n)
 
   -- no head of the clause has the atom's predicate
@@ -182,7 +180,7 @@ module _ {f : Files} {room : List ℕ} {w : Where} {x : Spot} {left : ℕ} where
       record { kept = keeps_same room; answer = sym (headless (listed us) o bs a (λ g ds. spec.provable (listed us) left o c ds g) d bs' (sym h ∙ n)) }
 
   -- two clauses
-  pub and-lost : {q : After} (nest : ℕ) → PastAt (drop x.at (bytes_at f x)) 6 64 q → q ≡ A.Nothing → PassingAs W.And f room room w x nest left false
+  pub and-lost : {q : std.Option ℕ} (nest : ℕ) → PastAt (drop x.at (bytes_at f x)) 6 64 q → q ≡ None → PassingAs W.And f room room w x nest left false
   and-lost nest p e ds us o c bs a d bs' h =
       let (y, z, n) = clause-is d h in
       subst (Claim f room room ds us w x (suc nest) left o c bs a bs' false) (sym n)
@@ -197,7 +195,7 @@ module _ {f : Files} {room : List ℕ} {w : Where} {x : Spot} {left : ℕ} where
       let m = passing-at i p ds us o c bs a y bs' (omega arith) (taken-part t 6 y (first_part (octets "and") heads.0 t.framed.stands) (omega arith) (both_of (clause_ok (length bs') y) (clause_ok (length bs') z) t.scoped).0) in
       record { kept = m.kept; answer = or_yes (passes us left o c bs a z bs') m.answer e })
 
-  pub and_second : {mid after : List ℕ} {u v : Spot} {q : After} {k : ℕ} {s r : Bool} (nest : ℕ) → u ≡ further x 6 → v ≡ further x k → PastAt (drop x.at (bytes_at f x)) 6 64 q → q ≡ A.Next k → Passing f room mid w u nest left s → s ≡ false → length mid ≡ length room → Passing f mid after w v nest left r → PassingAs W.And f room after w x nest left r
+  pub and_second : {mid after : List ℕ} {u v : Spot} {q : std.Option ℕ} {k : ℕ} {s r : Bool} (nest : ℕ) → u ≡ further x 6 → v ≡ further x k → PastAt (drop x.at (bytes_at f x)) 6 64 q → q ≡ Some k → Passing f room mid w u nest left s → s ≡ false → length mid ≡ length room → Passing f mid after w v nest left r → PassingAs W.And f room after w x nest left r
   unfolding spec.through
   and_second {mid} {after} {k = k} {r = r} nest i j b e p z l p' ds us o c bs a d bs' h =
       let (y, y', n) = clause-is d h in
@@ -267,13 +265,13 @@ module _ {f : Files} {room : List ℕ} {w : Where} {x : Spot} {left : ℕ} where
 
 -- clause k for an atom
 module _ {f : Files} {room after : List ℕ} {w : Where} {left : ℕ} (k : ℕ) where
-  pub by-none : {q : Chosen} → Opened room after k w.supposed w.top q → q ≡ C.Nothing → ProvingBy f room after w k left false
+  pub by-none : {q : std.Option Spot} → Opened room after k w.supposed w.top q → q ≡ None → ProvingBy f room after w k left false
   unfolding spec.clause_does
   by-none p e ds us o c bs a r =
       let (n, same) = opened-none r k (subst (Opened room after k w.supposed w.top) e p) in
       record { kept = subst (Keeps (Stock f ds us w.supposed c) w.supposed w.top room) (sym same) (keeps_same room); answer = ap (λ (m : Option (AtHand Plain)). maybe m false λ d. passes us left o c bs a d.clause d.bindings) (sym n) }
 
-  pub by-opened : {last : List ℕ} {q : Chosen} {y : Spot} {s : Bool} → Opened room after k w.supposed w.top q → q ≡ C.Clause y
+  pub by-opened : {last : List ℕ} {q : std.Option Spot} {y : Spot} {s : Bool} → Opened room after k w.supposed w.top q → q ≡ Some y
       → ((ds : List (Clause Plain)) (us : List Term) (o : List Plain) (c : Hand Plain) (bs : Bindings) (a : Atom) (z : Opens f room after ds us w y left o c bs a k) → Answers (Stock f ds us w.supposed c) w.supposed (y.base + y.count) after last (passes us left o c bs a z.clause.clause z.clause.bindings) s)
       → ProvingBy f room last w k left s
   unfolding spec.clause_does
@@ -285,5 +283,5 @@ module _ {f : Files} {room after : List ℕ} {w : Where} {left : ℕ} (k : ℕ) 
         answer = b.answer ∙ ap (λ (n : Option (AtHand Plain)). maybe n false λ d. passes us left o c bs a d.clause d.bindings) (sym z.there);
       }
 
-  pub by-clause : {last : List ℕ} {q : Chosen} {y : Spot} {s : Bool} → Opened room after k w.supposed w.top q → q ≡ C.Clause y → Passing f after last w y 64 left s → ProvingBy f room last w k left s
+  pub by-clause : {last : List ℕ} {q : std.Option Spot} {y : Spot} {s : Bool} → Opened room after k w.supposed w.top q → q ≡ Some y → Passing f after last w y 64 left s → ProvingBy f room last w k left s
   by-clause p e m = by-opened p e λ ds us o c bs a z. m ds us o c bs a z.clause.clause z.clause.bindings (omega (arith, z.taken.framed.shallow)) z.taken

@@ -3,7 +3,7 @@ use Prim.Native.Nat.{ℕ, zero, suc, ◌+◌, ◌-◌, ◌≤◌, ◌<◌}
 use native.Mathlib.Omega.{arith}
 use mathlib.Core.Path.{◌≡◌, refl, sym, ◌∙◌, ap, ap₂, subst}
 use mathlib.Core.Bool.{Bool, true, false, false≢true}
-use mathlib.Core.List.{List, [], ◌∷◌}
+use mathlib.Core.List.{List, ◌∷◌}
 use lib.ListN.{length, get_or, set, length-set}
 use lib.Seq.{get_or-set_other}
 use borrow.Author.Tests.{lt-ltb, le-ltb}
@@ -18,7 +18,8 @@ use Rattle.room.specs.Layout.{words, levels, stack}
 use Rattle.room.specs.Frame.{binding_word, binding_of, held, bindings_in}
 use Rattle.room.specs.Spot.{bindings_at}
 use Rattle.equal.specs.Term.{AtomAt}
-use Rattle.room.specs.Where.{Files, Live, Kept, Framed, plus}
+use Rattle.room.specs.Where.{Live, Kept, Framed, plus}
+use Rattle.room.specs.Files.{Files}
 use Rattle.room.specs.declared.Spot.{Spot}
 use Rattle.room.specs.declared.Where.{Where}
 use Rattle.equal.proofs.AtomLaws.{atom-at}
@@ -174,10 +175,10 @@ module _ {f : Files} {room : List ℕ} {ds : List (Clause Plain)} {us : List Ter
     pub ready-atom : Ready f room ds us w (suc left) o c bs (Goal.atom a)
     ready-atom = subst (Ready f room ds us w (suc left) o c bs) (t.atom y) t.ready
 
-    pub head-at : AtomAt f.rules f.goal f.terms p.head (head_of e)
+    pub head-at : AtomAt f p.head (head_of e)
     head-at = let h = head_in f room p e fr t.parts in atom-at (head_of e) (h.framed y) (h.scoped y)
 
-    pub atom-there : AtomAt f.rules f.goal f.terms w.goal a
+    pub atom-there : AtomAt f w.goal a
     atom-there = atom-at a ready-atom.place.framed ready-atom.place.scoped
 
   -- in another room, where the place and the parts stand

@@ -2,7 +2,7 @@
 -- Each law ends in the contract of a function of crate provable, src/provable.
 use Prim.Native.Nat.{ℕ, suc, ◌+◌, ◌-◌, ◌≤◌}
 use native.Mathlib.Omega.{arith}
-use mathlib.Core.Path.{◌≡◌, refl, sym, ◌∙◌, ap, subst}
+use mathlib.Core.Path.{◌≡◌, sym, ◌∙◌, ap, subst}
 use mathlib.Core.Bool.{Bool, true, false, ◌&&◌, ◌||◌}
 use mathlib.Core.List.{List, [], ◌∷◌, ◌++◌}
 use lib.ListN.{length, drop, set}
@@ -12,25 +12,24 @@ use Rattle.harrop.specs.declared.Binding.TheVariants.{Parameter}
 use Rattle.harrop.specs.Formula.{Term, Goal, Clause}
 use Rattle.harrop.specs.Bindings.{Bindings}
 use Rattle.harrop.specs.Place.{Hand, Plain, listed}
-use Rattle.sexp.specs.declared.skip.After.{After}
-use Rattle.sexp.specs.declared.skip.After.TheVariants as A
+use Rattle.std.specs.Prelude.{Option, Some, None}
 use Rattle.sexp.specs.Past.{PastAt}
 use Rattle.packet.specs.declared.Word.{Word}
 use Rattle.packet.specs.declared.Word.TheVariants as W
 use Rattle.reader.specs.WordAt.{WordAt}
 use Rattle.packet.specs.declared.Kind.TheVariants as K
-use Rattle.rows.specs.declared.table.Row.TheVariants as R
 use Rattle.rows.specs.Rows.{row_of}
 use Rattle.packet.specs.Table.{due_after}
 use Rattle.packet.specs.Barred.{goal_ok, clause_ok}
 use Rattle.room.specs.Frame.{binding_word, held}
-use Rattle.room.specs.Spot.{file_of, supposing}
-use Rattle.room.specs.Where.{Files, plus, further, within, bound, supposes}
+use Rattle.room.specs.Spot.{supposing}
+use Rattle.room.specs.Files.{Files, file_of}
+use Rattle.room.specs.Where.{plus, further, within, bound, supposes}
 use Rattle.room.specs.declared.Spot.{Spot}
 use Rattle.room.specs.declared.Where.{Where}
 use Rattle.table.specs.Recall.{TableOnly, Forgets}
 use Rattle.proving.specs.Provable as spec
-use Rattle.proving.specs.Stock.{Stock, Keeps}
+use Rattle.proving.specs.Stock.{Stock}
 use Rattle.proving.specs.Proving.{Ready, Answers, Proving, ProvingAs}
 use Rattle.heads.proofs.HeadLaws.{goal-says, goal-is, goal-has-row, heads, first_part, second-found, first_found}
 use Rattle.proving.proofs.StockLaws.{keeps_same, keeps_then, keeps-push}
@@ -38,7 +37,7 @@ use Rattle.proving.proofs.ReadyLaws.{ready-kept, ready-part, ready-all, ready-un
 
 -- the file of a spot
 abbrev pub bytes_at : Files → Spot → List ℕ
-bytes_at f x = file_of f.rules f.goal f.terms x.source
+bytes_at f x = file_of f x.source
 
 -- answers put together
 pub and_no : {r a : Bool} (b : Bool) → r ≡ a → r ≡ false → false ≡ a && b
@@ -87,12 +86,12 @@ module _ {f : Files} {room : List ℕ} {w : Where} where
       record { kept = keeps_same room; answer = ap (spec.provable (listed us) (suc left) o c bs) {x = Goal.top} {y = g} (sym (goal-is g h)) }
 
   -- no goal has any other word
-  pub by-other : (h : ℕ) (k : Word) → WordAt (drop w.goal.at (bytes_at f w.goal)) 1 k → R.Nothing ≡ row_of (due_after K.Goal k) → Proving f room room w h false
+  pub by-other : (h : ℕ) (k : Word) → WordAt (drop w.goal.at (bytes_at f w.goal)) 1 k → None ≡ row_of (due_after K.Goal k) → Proving f room room w h false
   by-other h k q n ds us o c bs g r = absurd (goal-has-row g k (goal-says (bytes_at f w.goal) w.goal.at g k r.place.framed.stands q) n)
 
   module _ {left : ℕ} where
     -- the part of an `and` or an `or` is always found
-    pub both-lost : {mid : List ℕ} {q : After} → PastAt (drop w.goal.at (bytes_at f w.goal)) 6 64 q → q ≡ A.Nothing → ProvingAs W.And f room mid w left false
+    pub both-lost : {mid : List ℕ} {q : Option ℕ} → PastAt (drop w.goal.at (bytes_at f w.goal)) 6 64 q → q ≡ None → ProvingAs W.And f room mid w left false
     both-lost {mid} p e ds us o c bs g h =
         let (x, y, n) = goal-is g h in
         subst (Claim f room mid ds us w (suc left) o c bs false) (sym n)
@@ -107,7 +106,7 @@ module _ {f : Files} {room : List ℕ} {w : Where} where
         let a = proving-at i p ds us o c bs x (ready-part r 6 x (first_part (octets "and") heads.0 r.place.framed.stands) (omega arith) (both_of (goal_ok (length bs) x) (goal_ok (length bs) y) r.place.scoped).0) in
         record { kept = a.kept; answer = and_no (spec.provable (listed us) left o c bs y) a.answer e })
 
-    pub both-second : {mid after : List ℕ} {v v' : Where} {q : After} {k : ℕ} {s t : Bool} → v ≡ within w 6 → v' ≡ within w k → PastAt (drop w.goal.at (bytes_at f w.goal)) 6 64 q → q ≡ A.Next k → Proving f room mid v left s → s ≡ true → length mid ≡ length room → Proving f mid after v' left t → ProvingAs W.And f room after w left t
+    pub both-second : {mid after : List ℕ} {v v' : Where} {q : Option ℕ} {k : ℕ} {s t : Bool} → v ≡ within w 6 → v' ≡ within w k → PastAt (drop w.goal.at (bytes_at f w.goal)) 6 64 q → q ≡ Some k → Proving f room mid v left s → s ≡ true → length mid ≡ length room → Proving f mid after v' left t → ProvingAs W.And f room after w left t
     unfolding spec.provable
     both-second {mid} {after} {k = k} {t = t} i j u e p z l p' ds us o c bs g h =
         let (x, y, n) = goal-is g h in
@@ -118,7 +117,7 @@ module _ {f : Files} {room : List ℕ} {w : Where} where
         let b = proving-at j p' ds us o c bs y (ready-kept a.kept l (ready-part r k y (second-found (octets "and") heads.0 r.place.framed.stands u e) (omega arith) ok')) in
         record { kept = keeps_then room mid after (omega arith) (omega arith) a.kept b.kept; answer = and_yes a.answer z b.answer })
 
-    pub either-lost : {q : After} → PastAt (drop w.goal.at (bytes_at f w.goal)) 5 64 q → q ≡ A.Nothing → ProvingAs W.Or f room room w left false
+    pub either-lost : {q : Option ℕ} → PastAt (drop w.goal.at (bytes_at f w.goal)) 5 64 q → q ≡ None → ProvingAs W.Or f room room w left false
     either-lost p e ds us o c bs g h =
         let (x, y, n) = goal-is g h in
         subst (Claim f room room ds us w (suc left) o c bs false) (sym n)
@@ -133,7 +132,7 @@ module _ {f : Files} {room : List ℕ} {w : Where} where
         let a = proving-at i p ds us o c bs x (ready-part r 5 x (first_part (octets "or") heads.1.0 r.place.framed.stands) (omega arith) (both_of (goal_ok (length bs) x) (goal_ok (length bs) y) r.place.scoped).0) in
         record { kept = a.kept; answer = or_yes (spec.provable (listed us) left o c bs y) a.answer e })
 
-    pub either_second : {mid after : List ℕ} {v v' : Where} {q : After} {k : ℕ} {s t : Bool} → v ≡ within w 5 → v' ≡ within w k → PastAt (drop w.goal.at (bytes_at f w.goal)) 5 64 q → q ≡ A.Next k → Proving f room mid v left s → s ≡ false → length mid ≡ length room → Proving f mid after v' left t → ProvingAs W.Or f room after w left t
+    pub either_second : {mid after : List ℕ} {v v' : Where} {q : Option ℕ} {k : ℕ} {s t : Bool} → v ≡ within w 5 → v' ≡ within w k → PastAt (drop w.goal.at (bytes_at f w.goal)) 5 64 q → q ≡ Some k → Proving f room mid v left s → s ≡ false → length mid ≡ length room → Proving f mid after v' left t → ProvingAs W.Or f room after w left t
     unfolding spec.provable
     either_second {mid} {after} {k = k} {t = t} i j u e p z l p' ds us o c bs g h =
         let (x, y, n) = goal-is g h in
@@ -169,13 +168,13 @@ module _ {f : Files} {room : List ℕ} {w : Where} where
         subst (Claim f room room ds us w (suc left) o c bs false) (sym n)
         (λ r. record { kept = keeps_same room; answer = ap (λ (m : ℕ). spec.provable (listed us) m o (c ++ (record { clause = d; bindings = bs } ∷ [])) bs x) {x = 0} {y = left} (sym z) })
 
-    pub under-lost : {q : After} → PastAt (drop w.goal.at (bytes_at f w.goal)) 6 64 q → q ≡ A.Nothing → ProvingAs W.Imp f room room w left false
+    pub under-lost : {q : Option ℕ} → PastAt (drop w.goal.at (bytes_at f w.goal)) 6 64 q → q ≡ None → ProvingAs W.Imp f room room w left false
     under-lost p e ds us o c bs g h =
         let (d, x, n) = goal-is g h in
         subst (Claim f room room ds us w (suc left) o c bs false) (sym n)
         (λ r. absurd (first_found (octets "imp") heads.1.1.1.1 r.place.framed.stands (omega (arith, r.place.framed.shallow)) p e))
 
-    pub under_goes : {first mid after : List ℕ} {v : Where} {y : Spot} {q : After} {m k : ℕ} {s : Bool} → (left ≡ 0 → ⊥) → y ≡ further w.goal 6 → m ≡ plus w.supposed 1 → v ≡ supposes w k → PastAt (drop w.goal.at (bytes_at f w.goal)) 6 64 q → q ≡ A.Next k
+    pub under_goes : {first mid after : List ℕ} {v : Where} {y : Spot} {q : Option ℕ} {m k : ℕ} {s : Bool} → (left ≡ 0 → ⊥) → y ≡ further w.goal 6 → m ≡ plus w.supposed 1 → v ≡ supposes w k → PastAt (drop w.goal.at (bytes_at f w.goal)) 6 64 q → q ≡ Some k
         → first ≡ supposing room w.supposed y → TableOnly first mid → Forgets first mid m → Proving f mid after v left s → ProvingAs W.Imp f room after w left s
     unfolding spec.provable
     under_goes {first} {mid} {after} {k = k} {s = s} z j e' i u e f' t t' p ds us o c bs g h =

@@ -22,7 +22,8 @@ use Rattle.room.specs.Layout.{words, candidates_word, highest_word, supposed_wor
 use Rattle.room.specs.Frame.{binding_word, held}
 use Rattle.room.specs.Spot.{spot_words, supposing}
 use Rattle.room.specs.Table.{CandidatesIn}
-use Rattle.room.specs.Where.{Files, plus, further, within, bound, supposes}
+use Rattle.room.specs.Where.{plus, further, within, bound, supposes}
+use Rattle.room.specs.Files.{Files}
 use Rattle.room.specs.declared.Where.{Where}
 use Rattle.room.proofs.FileLaws.{supposing-some}
 use Rattle.room.proofs.WhereLaws.{file, part-means, means-kept, kept_then}

@@ -1,21 +1,21 @@
 -- What the table says of the atom at a place is what `provable` says of it, and what `provable` says may be kept there (document 02, Three).
-use Prim.Native.Nat.{ℕ, suc, ◌+◌, ◌-◌, ◌%◌, ◌≤◌, ◌<◌}
+use Prim.Native.Nat.{ℕ, suc, ◌-◌, ◌%◌, ◌≤◌, ◌<◌}
 use native.Mathlib.Omega.{arith}
 use mathlib.Core.Path.{◌≡◌, ◌∙◌, sym, ap, subst}
 use mathlib.Core.Bool.{Bool, true}
 use mathlib.Core.List.{List}
 use lib.ListN.{length}
+use Rattle.std.specs.Prelude.{Option, Some}
 use Rattle.harrop.specs.Formula.{Term, Atom, Goal, Clause}
 use Rattle.harrop.specs.Bindings.{Bindings, replaced_atom}
 use Rattle.harrop.specs.Place.{Hand, Plain, listed}
 use Rattle.room.specs.Spot.{bindings_at}
-use Rattle.room.specs.Where.{Files}
+use Rattle.room.specs.Files.{Files}
 use Rattle.room.specs.declared.Where.{Where}
 use Rattle.equal.proofs.AtomLaws.{atom-at}
 use Rattle.table.specs.Slots.{numbers_of, numbers_word, words_in}
 use Rattle.table.specs.Recall.{Says, Recalls, Chose, TableOnly}
 use Rattle.table.specs.Recall as table
-use Rattle.table.specs.declared.Recalled.{Recalled}
 use Rattle.table.proofs.GoodLaws.{recalls-so, chosen-so}
 use Rattle.table.proofs.EntryLaws.{keeps-good}
 use Rattle.proving.specs.Provable as provable
@@ -34,7 +34,7 @@ module _ {f : Files} {room : List ℕ} {ds : List (Clause Plain)} {us : List Ter
       ∙ sym (truth-here us (length ds) w.supposed w.parameters (suc left) o c bs a r.place.hand.number r.place.openly))
 
   -- what is recalled is so
-  pub recalled-so : (height at : ℕ) (q : Recalled) → height ≡ suc left → at % 16 ≡ 0 → Recalls f room w height at q → Says (provable.provable (listed us) (suc left) o c bs (Goal.atom a)) q
+  pub recalled-so : (height at : ℕ) (q : Option Bool) → height ≡ suc left → at % 16 ≡ 0 → Recalls f room w height at q → Says (provable.provable (listed us) (suc left) o c bs (Goal.atom a)) q
   recalled-so height at q e z h =
       subst (λ (b : Bool). Says b q) (spoken height e)
       (recalls-so f room w height at a z r.stock.good r.place.booked.candidates (atom-at a r.place.framed r.place.scoped) q (truth-rises us (length ds) c) h)
@@ -46,13 +46,13 @@ module _ {f : Files} {room : List ℕ} {ds : List (Clause Plain)} {us : List Ter
       (subst (λ (h : ℕ). choice us (length ds) c w.supposed w.parameters h (replaced_atom us bs a) k ns) (sym e)
       (choice-here us (length ds) w.supposed w.parameters left o c (replaced_atom us bs a) k ns r.place.hand.number r.place.openly C))
 
-  pub chosen-here : (height at k : ℕ) → height ≡ suc left → at % 16 ≡ 0 → 0 < k → Chose f room w height at k → Chooses us left o c (replaced_atom us bs a) (k - 1) (words_in room (numbers_word room at) (numbers_of room at))
-  chosen-here height at k e z l h =
+  pub chosen-here : (height at k : ℕ) → height ≡ suc left → at % 16 ≡ 0 → Chose f room w height at (Some k) → Chooses us left o c (replaced_atom us bs a) k (words_in room (numbers_word room at) (numbers_of room at))
+  chosen-here height at k e z h =
       let ns = words_in room (numbers_word room at) (numbers_of room at) in
-      choice-there us (length ds) w.supposed w.parameters left o c (replaced_atom us bs a) (k - 1) ns r.place.hand.number r.place.openly
-      (subst (λ (i : ℕ). choice us (length ds) c w.supposed w.parameters i (replaced_atom us bs a) (k - 1) ns) e
-      (subst (λ (y : Bindings). choice us (length ds) c w.supposed w.parameters height (replaced_atom us y a) (k - 1) ns) r.place.framed.holds
-      (chosen-so f room w height at a z r.stock.good r.place.booked.candidates (atom-at a r.place.framed r.place.scoped) k l h)))
+      choice-there us (length ds) w.supposed w.parameters left o c (replaced_atom us bs a) k ns r.place.hand.number r.place.openly
+      (subst (λ (i : ℕ). choice us (length ds) c w.supposed w.parameters i (replaced_atom us bs a) k ns) e
+      (subst (λ (y : Bindings). choice us (length ds) c w.supposed w.parameters height (replaced_atom us y a) k ns) r.place.framed.holds
+      (chosen-so f room w height at a z r.stock.good r.place.booked.candidates (atom-at a r.place.framed r.place.scoped) k h)))
 
   -- what is so may be kept
   pub keeps_entry : {after : List ℕ} (height at number : ℕ) {b : Bool} → height ≡ suc left → at % 16 ≡ 0 → provable.provable (listed us) (suc left) o c bs (Goal.atom a) ≡ b → number ≤ 4294967295

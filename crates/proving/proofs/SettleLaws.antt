@@ -1,13 +1,13 @@
 -- The head of a clause beside the atom, one argument after the other: what each argument decides of the frame, and what the whole head decides (document 02, Three).
 -- Each law ends in the contract of a function of src/matching.
-use Prim.Native.Nat.{ℕ, ◌+◌, ◌≤◌, ◌<◌}
+use Prim.Native.Nat.{ℕ}
 use native.Mathlib.Omega.{arith}
 use mathlib.Core.Path.{◌≡◌, refl, sym, ◌∙◌, ap, subst}
 use mathlib.Core.Bool.{Bool, true, false, ◌&&◌, false≢true}
 use mathlib.Core.List.{List}
 use mathlib.Core.Option.{some}
 use lib.Dec.{ltb, leb, eqb}
-use lib.ListN.{length, get_or, get_elem?, drop, set}
+use lib.ListN.{get_or, get_elem?, drop, set}
 use Rattle.basics.specs.Choice.{both_true}
 use Rattle.basics.specs.Tells.{Tells}
 use Rattle.harrop.specs.declared.Binding.TheVariants.{Candidate}
@@ -16,10 +16,7 @@ use Rattle.harrop.specs.Bindings.{Bindings, nothing, meant, value_of, replaced, 
 use Rattle.harrop.specs.Place.{Hand, Plain}
 use Rattle.harrop.proofs.ListLaws.{member_below}
 use Rattle.harrop.proofs.SameLaws.{same-terms-equal, equal-terms-same}
-use Rattle.sexp.specs.declared.skip.After.{After}
-use Rattle.sexp.specs.declared.skip.After.TheVariants as A
-use Rattle.sexp.specs.declared.words.Value.{Value}
-use Rattle.sexp.specs.declared.words.Value.TheVariants as Val
+use Rattle.std.specs.Prelude.{Option, Some, None}
 use Rattle.sexp.specs.Past.{PastAt}
 use Rattle.sexp.specs.WordsAt.{Shared}
 use Rattle.packet.specs.Barred.{term_ok}
@@ -27,21 +24,20 @@ use Rattle.room.specs.Layout.{candidates_word, highest_word}
 use Rattle.room.specs.Frame.{binding_word, held}
 use Rattle.room.specs.Spot.{bindings_at}
 use Rattle.room.specs.Table.{CandidatesIn}
-use Rattle.room.specs.Where.{Files, further}
+use Rattle.room.specs.Where.{further}
+use Rattle.room.specs.Files.{Files}
 use Rattle.room.specs.declared.Spot.{Spot}
 use Rattle.room.specs.declared.Where.{Where}
 use Rattle.room.proofs.WhereLaws.{file-small}
 use Rattle.equal.specs.Term.{TermAt, SameAtoms}
 use Rattle.equal.proofs.AtomLaws.{same-there}
 use Rattle.heads.specs.Predicate.{bytes_at}
-use Rattle.mentions.specs.Open.{unset, is_open, Becomes}
+use Rattle.mentions.specs.Open.{is_open, Becomes}
 use Rattle.keys.proofs.WalkLaws.{candidate-meant}
-use Rattle.unset.specs.declared.Forced.{Forced}
-use Rattle.unset.specs.declared.Forced.TheVariants as F
 use Rattle.unset.specs.Unset.{MayBe}
 use Rattle.unset.specs.declared.Likeness.{Likeness}
 use Rattle.unset.specs.declared.Likeness.TheVariants as L
-use Rattle.unset.specs.Head.{LikeAs, Comparing, NoneOf, CandidateOf, CandidateAt, OpenAs, OpenAt}
+use Rattle.unset.specs.Head.{LikeAs, Comparing, CandidateOf, CandidateAt, OpenAs, OpenAt}
 use Rattle.unset.proofs.HeadLaws.{LeftAt, lowest-means, left-beside, left_end}
 use Rattle.unset.proofs.HeadLaws as heads
 use Rattle.unset.proofs.WholeLaws.{Enough, enough-start, enough-next, enough-end}
@@ -49,11 +45,9 @@ use Rattle.proving.specs.Stock.{Stock, Keeps}
 use Rattle.proving.specs.Parts.{variable_word, head_of, with_head}
 use Rattle.proving.specs.Proving.{passes}
 use Rattle.proving.specs.Frames.{set_to}
-use Rattle.proving.specs.First.{Forcing}
 use Rattle.proving.specs.Filling.{PartsIn, Filling, Fillable, Onward, is_never, is_same, Settled, Settling, Meeting, MayFit, Fits, floor}
-use Rattle.proving.specs.Matching.{Beside, TermIs, at_end, Matching, MatchingVariable}
+use Rattle.proving.specs.Matching.{TermIs, at_end, Matching, MatchingVariable}
 use Rattle.proving.specs.declared.plain.Parts.{Parts}
-use Rattle.proving.specs.declared.Going.TheVariants as G
 use Rattle.proving.proofs.StockLaws.{keeps_same, keeps_then}
 use Rattle.proving.proofs.ReadyLaws.{may-be, allowed-below}
 use Rattle.proving.proofs.PlainLaws.{head_in, frame_is, ready-atom, head-at, atom-there, write_keeps, filling-set, filling-compared}
@@ -122,22 +116,19 @@ module _ {f : Files} {room : List ℕ} {ds : List (Clause Plain)} {us : List Ter
       ∙ h us (head_of e) a (λ s. file-small q.booked s) q.booked.candidates (head-at t y) (atom-there t y) n ds' (subst (λ (z : Bindings). Becomes us p.own z ds') (sym (frame_is t)) m))
 
 -- a variable that is unset, by the lowest candidate that is the atom's term
-module _ {f : Files} {room : List ℕ} {w : Where} {p : Parts} {y : Spot} (v : ℕ) {z : Forced} (C : CandidateAt f room y z) where
-  told : {q : Forced} {ds : List (Clause Plain)} {us : List Term} {left : ℕ} {o : List Plain} {c : Hand Plain} {bs : Bindings} {a : Atom} {e : Clause Plain} {fr : Bindings} {u : Term} → Filling f room ds us w p left o c bs a e fr → TermAt f.rules f.goal f.terms y u → bindings_at room y ≡ bs → z ≡ q → CandidateOf us (replaced us bs u) q
+module _ {f : Files} {room : List ℕ} {w : Where} {p : Parts} {y : Spot} (v : ℕ) {z : Option ℕ} (C : CandidateAt f room y z) where
+  told : {q : Option ℕ} {ds : List (Clause Plain)} {us : List Term} {left : ℕ} {o : List Plain} {c : Hand Plain} {bs : Bindings} {a : Atom} {e : Clause Plain} {fr : Bindings} {u : Term} → Filling f room ds us w p left o c bs a e fr → TermAt f y u → bindings_at room y ≡ bs → z ≡ q → CandidateOf us (replaced us bs u) q
   told {us = us} {u = u} t T b i =
       subst (CandidateOf us (replaced us _ u)) i
       (subst (λ (x : Bindings). CandidateOf us (replaced us x u) z) b (C us u t.ready.place.booked.candidates t.ready.stock.keys.candidates T))
 
-  pub variable-nothing : z ≡ F.Nothing → MatchingVariable f room room w p v y L.Never
-  variable-nothing i ds us left o c bs a e fr u t n T b s = absurd (told t T b i)
-
-  pub variable-never : z ≡ F.Never → MatchingVariable f room room w p v y L.Never
+  pub variable-never : z ≡ None → MatchingVariable f room room w p v y L.Never
   variable-never i ds us left o c bs a e fr u t n T b s =
       let none = told t T b i in
       denied (keeps_same room) (forced-never us left o c bs a e p.own fr v n (replaced us bs u) s (λ j m. none j (member_below us j (replaced us bs u) m) m))
 
-  module _ (i : ℕ) (j : z ≡ F.Candidate i) where
-    gives : {ds : List (Clause Plain)} {us : List Term} {left : ℕ} {o : List Plain} {c : Hand Plain} {bs : Bindings} {a : Atom} {e : Clause Plain} {fr : Bindings} {u : Term} → Filling f room ds us w p left o c bs a e fr → TermAt f.rules f.goal f.terms y u → bindings_at room y ≡ bs → ((es : Bindings) → passes us left o c bs a e es ≡ true → value_of us es v ≡ replaced us bs u)
+  module _ (i : ℕ) (j : z ≡ Some i) where
+    gives : {ds : List (Clause Plain)} {us : List Term} {left : ℕ} {o : List Plain} {c : Hand Plain} {bs : Bindings} {a : Atom} {e : Clause Plain} {fr : Bindings} {u : Term} → Filling f room ds us w p left o c bs a e fr → TermAt f y u → bindings_at room y ≡ bs → ((es : Bindings) → passes us left o c bs a e es ≡ true → value_of us es v ≡ replaced us bs u)
         → (es : Bindings) → passes us left o c bs a e es ≡ true → value_of us es v ≡ meant us (Candidate i)
     gives {us = us} {bs = bs} {u = u} t T b s es q = s es q ∙ candidate-meant us i (replaced us bs u) (told t T b j).0
 
@@ -175,7 +166,7 @@ module _ {f : Files} {room : List ℕ} {w : Where} {p : Parts} {y : Spot} (v : �
 
 -- an argument of the head beside one of the atom
 module _ {f : Files} {room : List ℕ} {w : Where} {p : Parts} {x y : Spot} where
-  pub match-variable : {after : List ℕ} {q : Value} {v : ℕ} {r : Likeness} → OpenAt f room x p.own q → q ≡ Val.Is v → MatchingVariable f room after w p v y r → Matching f room after w p x y r
+  pub match-variable : {after : List ℕ} {q : Option ℕ} {v : ℕ} {r : Likeness} → OpenAt f room x p.own q → q ≡ Some v → MatchingVariable f room after w p v y r → Matching f room after w p x y r
   match-variable {after} {v = v} {r = r} O i M ds us left o c bs a e fr t u F B =
       let (is, n) = subst (OpenAs p.own (bindings_at room x) t) i (O t B.here) in
       subst (λ (z : Term). Claim f room after ds us w p left o c bs a e fr (TermIs us p.own bs z u) r) (sym is)
@@ -217,7 +208,7 @@ module _ {f : Files} {room : List ℕ} {w : Where} {p : Parts} where
 
   module _ {s t : List ℕ} (es : s ≡ drop p.head.at (bytes_at f p.head)) (et : t ≡ drop w.goal.at (bytes_at f w.goal)) where
     -- after the name
-    pub settle-start : {r : Bool} {v : After} {i : ℕ} → Tells r (Shared s 7 t 7) → r ≡ true → PastAt s 7 0 v → v ≡ A.Next i → SettledTo f room room w p s t i i true
+    pub settle-start : {r : Bool} {v : Option ℕ} {i : ℕ} → Tells r (Shared s 7 t 7) → r ≡ true → PastAt s 7 0 v → v ≡ Some i → SettledTo f room room w p s t i i true
     settle-start h n v z ds us left o c bs a e fr F y = (keeps_same room, unmoved F (λ q. enough-start f room p.head w.goal es et h n v z us (head_of e) a bs (Becomes us p.own fr) (head-at F y) (atom-there F y)))
 
     module _ {now : List ℕ} (i j : ℕ) (rest : LeftAt f room p.head w.goal s t i j) {sure : Bool} (inv : SettledTo f room now w p s t i j sure) where
@@ -249,7 +240,7 @@ module _ {f : Files} {room : List ℕ} {w : Where} {p : Parts} where
             let (kept, n) = inv ds us left o c bs a e fr F k in
             (then-kept kept n (matched F k), record { yes = λ q. onward-as (then-on kept n (matched F k) z) (λ q. absurd (false≢true q)); no = λ q. absurd (false≢true q) })
 
-        pub settle-next : {b : Bool} {v v' : After} {m m' : ℕ} → is_never r ≡ false → b ≡ (is_same r && sure) → v ≡ A.Next m → PastAt s i 64 v → v' ≡ A.Next m' → PastAt t j 64 v' → SettledTo f room after w p s t m m' b
+        pub settle-next : {b : Bool} {v v' : Option ℕ} {m m' : ℕ} → is_never r ≡ false → b ≡ (is_same r && sure) → v ≡ Some m → PastAt s i 64 v → v' ≡ Some m' → PastAt t j 64 v' → SettledTo f room after w p s t m m' b
         settle-next {b} z still v P u Q ds us left o c bs a e fr F k =
             let (kept, n) = inv ds us left o c bs a e fr F k in
             let n' = then-on kept n (matched F k) z in
@@ -275,17 +266,17 @@ module _ {f : Files} {room : List ℕ} {w : Where} {p : Parts} where
 
 -- with or without a head to compare: at first, while a variable is tried, and where all are set
 module _ {f : Files} {room : List ℕ} {w : Where} {p : Parts} where
-  pub meet-none : Meeting f room room w p (G.On p)
+  pub meet-none : Meeting f room room w p (Some p)
   meet-none ds us left o c bs a e fr t h = (keeps_same room, (p.headed, refl, unmoved t h))
 
   module _ {after : List ℕ} {r : Likeness} (y : p.headed ≡ true) (m : Settling f room after w p r) where
-    pub meet-never : r ≡ L.Never → Meeting f room after w p G.Never
+    pub meet-never : r ≡ L.Never → Meeting f room after w p None
     meet-never z ds us left o c bs a e fr t h = let (k, n) = m ds us left o c bs a e fr t y in (k, n.no (ap is_never z))
 
-    pub meet-open : r ≡ L.Open → Meeting f room after w p (G.On p)
+    pub meet-open : r ≡ L.Open → Meeting f room after w p (Some p)
     meet-open z ds us left o c bs a e fr t h = let (k, n) = m ds us left o c bs a e fr t y in (k, (p.headed, refl, onward-as (n.yes (ap is_never z)) (λ q. absurd (false≢true (sym q ∙ y)))))
 
-    pub meet-same : {q : Parts} → r ≡ L.Same → q ≡ with_head p false → Meeting f room after w p (G.On q)
+    pub meet-same : {q : Parts} → r ≡ L.Same → q ≡ with_head p false → Meeting f room after w p (Some q)
     meet-same z q ds us left o c bs a e fr t h =
         let (k, s) = m ds us left o c bs a e fr t y in
         let n = s.yes (ap is_never z) in
@@ -300,7 +291,7 @@ module _ {f : Files} {room : List ℕ} {w : Where} {p : Parts} where
   pub fits-none : p.headed ≡ false → Fits f room w p true
   fits-none y ds us left o c bs a e fr t h = sym (h y fr (λ i q. refl))
 
-  pub fits_head : {b : Bool} → p.headed ≡ true → SameAtoms f.rules f.goal f.terms room p.head w.goal b → Fits f room w p b
+  pub fits_head : {b : Bool} → p.headed ≡ true → SameAtoms f room p.head w.goal b → Fits f room w p b
   fits_head {b} y s ds us left o c bs a e fr t n =
       let h = head_in f room p e fr t.parts in
       let m = (ready-atom t y).place in

@@ -10,7 +10,8 @@ use Rattle.harrop.specs.Place.{Hand, Plain}
 use Rattle.harrop.proofs.ListLaws.{member_below}
 use Rattle.room.specs.Layout.{levels, rules_at_most, candidates_at_most, supposed_word, supposed_at_most, stack}
 use Rattle.room.specs.Spot.{spot_words, supposing}
-use Rattle.room.specs.Where.{Files, Live, Kept, Booked}
+use Rattle.room.specs.Where.{Live, Kept, Booked}
+use Rattle.room.specs.Files.{Files}
 use Rattle.room.specs.declared.Spot.{Spot}
 use Rattle.room.proofs.FileLaws.{supposing-some}
 use Rattle.room.proofs.WhereLaws.{kept_then, kept_less, push-keeps}
@@ -28,7 +29,7 @@ use Rattle.table.specs.Slots.{table_word}
 use Rattle.table.specs.Recall.{TableOnly, Forgets}
 use Rattle.table.proofs.GoodLaws.{good-kept, good-fewer, good-truth}
 use Rattle.table.proofs.ForgetLaws.{forgets-good}
-use Rattle.proving.specs.Stock.{truth, Stock, Keeps}
+use Rattle.proving.specs.Stock.{Stock, Keeps}
 use Rattle.proving.proofs.TruthLaws.{truth-before}
 use Rattle.proving.proofs.ChoiceLaws.{choice-later, choice-sooner}
 

@@ -16,7 +16,7 @@ use Rattle.harrop.specs.Bindings.{Bindings, replaced_atom, same_atom}
 use Rattle.harrop.specs.Place.{Candidates, AtHand, Hand, End, Plain, listed, allowed}
 use Rattle.harrop.proofs.ListLaws.{below-member}
 use Rattle.room.specs.Layout.{rules_word}
-use Rattle.room.specs.Where.{Files}
+use Rattle.room.specs.Files.{Files}
 use Rattle.room.specs.declared.Where.{Where}
 use Rattle.keys.specs.Key.{atom_key, predicate_key, head_key, clause_key}
 use Rattle.keys.specs.Chains.{Chained}

@@ -5,7 +5,7 @@ use Rattle.harrop.specs.Place.{Plain}
 use Rattle.sexp.specs.Sexp.{Stands, nesting}
 use Rattle.packet.specs.Written.{goal_sexp}
 use Rattle.packet.specs.File.{most_bytes}
-use Rattle.room.specs.Where.{Files}
+use Rattle.room.specs.Files.{Files}
 use Rattle.room.specs.declared.Spot.{Spot}
 use Rattle.heads.specs.Predicate.{bytes_at}
 use Rattle.proving.specs.declared.plain.Parts.{Parts}
@@ -34,7 +34,7 @@ headless = Atom.atom [] Terms.nil
 
 -- what stands inside, as parts
 abbrev pub inside_at : Spot → ℕ → Parts
-inside_at x own = record { found = true; own = own; body = true; headed = false; goal = x; head = x }
+inside_at x own = record { own = own; body = true; headed = false; goal = x; head = x }
 
 -- a goal at a spot
 pub record GoalThere (f : Files) (x : Spot) (g : Goal Plain) : Type 0 where

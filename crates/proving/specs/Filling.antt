@@ -1,6 +1,6 @@
 -- A clause with no `and` on the way to its head, searched with its variables unset at first: what its frame may become, and what a search that sets them one after the other says (document 02, Three: the head decides before candidates are tried, and a goal of a body is looked at as soon as its variables are set).
 -- A yes says that the frame that is left is the first completion with which a path ends well (specs/First), a no that there is none. That this is `passes` of the whole clause is shown in proofs/FillingLaws.
-use Rattle.std.specs.Prelude.{ℕ, zero, suc, ◌+◌, ◌-◌, ◌≤◌, ◌<◌, ◌≡◌, Bool, true, false, List, length, get_or}
+use Rattle.std.specs.Prelude.{ℕ, zero, suc, ◌+◌, ◌-◌, ◌≤◌, ◌<◌, ◌≡◌, Bool, true, false, List, length, get_or, Option, Some, None}
 use Rattle.std.proofs.Math.Option.{some}
 use Rattle.std.proofs.Math.ListN.{get_elem?}
 use Rattle.harrop.specs.declared.Binding.TheVariants.{Candidate}
@@ -14,7 +14,8 @@ use Rattle.packet.specs.Barred.{goal_ok, atom_ok}
 use Rattle.room.specs.Layout.{levels, stack}
 use Rattle.room.specs.Frame.{bindings_in}
 use Rattle.room.specs.Spot.{bindings_at}
-use Rattle.room.specs.Where.{Files, Live, Kept, Framed}
+use Rattle.room.specs.Where.{Live, Kept, Framed}
+use Rattle.room.specs.Files.{Files}
 use Rattle.room.specs.declared.Spot.{Spot}
 use Rattle.room.specs.declared.Where.{Where}
 use Rattle.heads.specs.Heads.{goal_word}
@@ -31,8 +32,6 @@ use Rattle.proving.specs.Chain.{chain, inside, headless}
 use Rattle.proving.specs.Frames.{alls, unsets, set_to, Completes}
 use Rattle.proving.specs.First.{FirstFrame, Forcing, Located}
 use Rattle.proving.specs.declared.plain.Parts.{Parts}
-use Rattle.proving.specs.declared.Going.{Going}
-use Rattle.proving.specs.declared.Going.TheVariants as G
 
 -- a goal that is looked at: it holds no unset variable and, if variable v is asked for as well, holds that one
 pub record Due (own : ℕ) (bs : Bindings) (also : Bool) (v : ℕ) (g : Goal Plain) : Type 0 where
@@ -197,11 +196,11 @@ Settling f room after w p r =
     Keeps (Stock f ds us w.supposed c) w.supposed (floor p) room after × Settled f after ds us w p left o c bs a e fr (HeadIs us p.own bs a e) r
 
 -- and by none as well: what is left to be searched are the parts, whose head is the atom if it is not to be compared any more
-abbrev pub Meets : Files → List ℕ → List (Clause Plain) → List Term → Where → Parts → ℕ → List Plain → Hand Plain → Bindings → Atom → Clause Plain → Bindings → Going → Type 0
-Meets f after ds us w p left o c bs a e fr G.Never = Fillable us left o c bs a e p.own fr false
-Meets f after ds us w p left o c bs a e fr (G.On q) = (headed : Bool) × (q ≡ with_head p headed) × Onward f after ds us w (with_head p headed) left o c bs a e fr (HeadStays us (with_head p headed) bs a e)
+abbrev pub Meets : Files → List ℕ → List (Clause Plain) → List Term → Where → Parts → ℕ → List Plain → Hand Plain → Bindings → Atom → Clause Plain → Bindings → Option Parts → Type 0
+Meets f after ds us w p left o c bs a e fr None = Fillable us left o c bs a e p.own fr false
+Meets f after ds us w p left o c bs a e fr (Some q) = (headed : Bool) × (q ≡ with_head p headed) × Onward f after ds us w (with_head p headed) left o c bs a e fr (HeadStays us (with_head p headed) bs a e)
 
-abbrev pub Meeting : Files → List ℕ → List ℕ → Where → Parts → Going → Type 0
+abbrev pub Meeting : Files → List ℕ → List ℕ → Where → Parts → Option Parts → Type 0
 Meeting f room after w p r =
     (ds : List (Clause Plain)) (us : List Term) (left : ℕ) (o : List Plain) (c : Hand Plain) (bs : Bindings) (a : Atom) (e : Clause Plain) (fr : Bindings) →
     Filling f room ds us w p left o c bs a e fr → HeadStays us p bs a e fr →
@@ -327,8 +326,9 @@ LocatingSome f room after w left =
     Located us (suc left - chain g) o c bs headless (chain g) (Clause.imp_d (inside g) headless) bs after w.top
 
 -- the same where the numbers of the atom and of its predicate are known
-abbrev pub LocatingFirst : Files → List ℕ → List ℕ → Where → ℕ → ℕ → ℕ → ℕ → Type 0
-LocatingFirst f room after w predicate key left k =
+abbrev pub LocatingFirst : Files → List ℕ → List ℕ → Where → ℕ → ℕ → ℕ → Option ℕ → Type 0
+LocatingFirst f room after w predicate key left r =
+    (k : ℕ) → r ≡ Some k →
     (ds : List (Clause Plain)) (us : List Term) (o : List Plain) (c : Hand Plain) (bs : Bindings) (a : Atom) →
     Ready f room ds us w (suc left) o c bs (Goal.atom a) →
     predicate ≡ predicate_key a → key ≡ atom_key (replaced_atom us bs a) →

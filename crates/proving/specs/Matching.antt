@@ -5,7 +5,7 @@ use Rattle.harrop.specs.Formula.{Term, Atom, Clause}
 use Rattle.harrop.specs.Bindings.{Bindings, value_of, replaced, same_term}
 use Rattle.harrop.specs.Place.{Hand, Plain}
 use Rattle.room.specs.Spot.{bindings_at}
-use Rattle.room.specs.Where.{Files}
+use Rattle.room.specs.Files.{Files}
 use Rattle.room.specs.declared.Spot.{Spot}
 use Rattle.room.specs.declared.Where.{Where}
 use Rattle.equal.specs.Term.{TermAt}
@@ -19,8 +19,8 @@ use Rattle.proving.specs.declared.plain.Parts.{Parts}
 
 -- an argument t of the head and one u of the atom, each at a spot of its frame: every frame with which a path ends well makes them the same
 pub record Beside (f : Files) (room : List ℕ) (us : List Term) (does : Bindings → Bool) (bs fr : Bindings) (x y : Spot) (t u : Term) : Type 0 where
-  pub here : TermAt f.rules f.goal f.terms x t
-  pub there : TermAt f.rules f.goal f.terms y u
+  pub here : TermAt f x t
+  pub there : TermAt f y u
   pub frame : bindings_at room x ≡ fr
   pub around : bindings_at room y ≡ bs
   pub same : (es : Bindings) → does es ≡ true → replaced us es t ≡ replaced us bs u
@@ -46,5 +46,5 @@ Matching f room after w p x y r =
 abbrev pub MatchingVariable : Files → List ℕ → List ℕ → Where → Parts → ℕ → Spot → Likeness → Type 0
 MatchingVariable f room after w p v y r =
     (ds : List (Clause Plain)) (us : List Term) (left : ℕ) (o : List Plain) (c : Hand Plain) (bs : Bindings) (a : Atom) (e : Clause Plain) (fr : Bindings) (u : Term) →
-    Filling f room ds us w p left o c bs a e fr → is_open p.own fr v ≡ true → TermAt f.rules f.goal f.terms y u → bindings_at room y ≡ bs → ((es : Bindings) → passes us left o c bs a e es ≡ true → value_of us es v ≡ replaced us bs u) →
+    Filling f room ds us w p left o c bs a e fr → is_open p.own fr v ≡ true → TermAt f y u → bindings_at room y ≡ bs → ((es : Bindings) → passes us left o c bs a e es ≡ true → value_of us es v ≡ replaced us bs u) →
     Keeps (Stock f ds us w.supposed c) w.supposed (floor p) room after × Settled f after ds us w p left o c bs a e fr (TermIs us p.own bs (Term.v v) u) r

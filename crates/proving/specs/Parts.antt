@@ -1,16 +1,16 @@
 -- A clause with no `and` on the way to its head, by its parts: how many quantifiers it has, and what stands inside them, an atom or a goal that implies an atom.
-use Rattle.std.specs.Prelude.{ℕ, suc, ◌+◌, ◌-◌, ◌≤◌, ◌<◌, ◌≡◌, Bool, true, false, List, ltb, length, get_or}
+use Rattle.std.specs.Prelude.{ℕ, suc, ◌+◌, ◌-◌, ◌≤◌, ◌<◌, ◌≡◌, Bool, true, false, List, ltb, get_or}
 use Rattle.std.proofs.Math.Option.{some}
 use Rattle.basics.specs.Choice.{choose}
 use Rattle.harrop.specs.Formula.{Atom, Goal, Clause}
 use Rattle.harrop.specs.Place.{Plain}
-use Rattle.sexp.specs.declared.skip.After.{After}
-use Rattle.sexp.specs.declared.skip.After.TheVariants as A
+use Rattle.std.specs.Prelude.{Option, Some, None, is_some}
 use Rattle.sexp.specs.Sexp.{Stands, nesting}
 use Rattle.packet.specs.Written.{atom_sexp, goal_sexp, clause_sexp}
 use Rattle.packet.specs.File.{most_bytes}
 use Rattle.room.specs.Layout.{levels, rules_word}
-use Rattle.room.specs.Where.{Files, plus}
+use Rattle.room.specs.Where.{plus}
+use Rattle.room.specs.Files.{Files}
 use Rattle.room.specs.declared.Spot.{Spot}
 use Rattle.room.specs.declared.Where.{Where}
 use Rattle.heads.specs.Predicate.{bytes_at, ClauseThere}
@@ -62,34 +62,30 @@ pub record PartsAt (f : Files) (x : Spot) (passed : ℕ) (d : Clause Plain) (r :
 abbrev pub HeadSaid : Files → Spot → ℕ → Clause Plain → Type 0
 HeadSaid f x at d = (b : Atom) → heads.head_of d ≡ some b → Stands (bytes_at f x) at (atom_sexp b)
 
--- what stands elsewhere in the same file, in the same frame
-abbrev pub moved_to : Spot → ℕ → Spot
-moved_to x at = record { source = x.source; at = at; base = x.base; count = x.count }
-
 -- the answer is where the head behind the body of an `imp` stands, if what is known of it is so
-abbrev pub Behind : Files → Spot → Bool → ℕ → Goal Plain → Atom → After → Type 0
-Behind f x known at g b A.Nothing = ⊥
-Behind f x known at g b (A.Next m) = (known ≡ true → HeadSaid f x at (Clause.imp_d g b)) → Stands (bytes_at f x) m (atom_sexp b)
+abbrev pub Behind : Files → Spot → Bool → ℕ → Goal Plain → Atom → Option ℕ → Type 0
+Behind f x known at g b None = ⊥
+Behind f x known at g b (Some m) = (known ≡ true → HeadSaid f x at (Clause.imp_d g b)) → Stands (bytes_at f x) m (atom_sexp b)
 
-abbrev pub HeadBehind : Files → Spot → Bool → ℕ → After → Type 0
+abbrev pub HeadBehind : Files → Spot → Bool → ℕ → Option ℕ → Type 0
 HeadBehind f x known at r = (g : Goal Plain) (b : Atom) → ClauseThere f x (Clause.imp_d g b) → Behind f x known at g b r
 
 -- whether there are such parts is told whatever is known of the head; they are right if that is so
-pub record PartsFrom (f : Files) (x : Spot) (known : Bool) (at own nest : ℕ) (r : Parts) : Type 0 where
-  pub few : r.own ≤ own + nest
-  pub told : (d : Clause Plain) → nesting (clause_sexp d) ≤ nest → ClauseThere f x d → x.count + nest ≤ most_bytes → own + nest ≤ most_bytes → r.found ≡ is_plain d
-  pub parts : (d : Clause Plain) → nesting (clause_sexp d) ≤ nest → ClauseThere f x d → x.count + nest ≤ most_bytes → own + nest ≤ most_bytes → (known ≡ true → HeadSaid f x at d) → r.found ≡ true → PartsAt f x own d r
+pub record PartsFrom (f : Files) (x : Spot) (known : Bool) (at own nest : ℕ) (r : Option Parts) : Type 0 where
+  pub few : (p : Parts) → r ≡ Some p → p.own ≤ own + nest
+  pub told : (d : Clause Plain) → nesting (clause_sexp d) ≤ nest → ClauseThere f x d → x.count + nest ≤ most_bytes → own + nest ≤ most_bytes → is_some r ≡ is_plain d
+  pub parts : (d : Clause Plain) → nesting (clause_sexp d) ≤ nest → ClauseThere f x d → x.count + nest ≤ most_bytes → own + nest ≤ most_bytes → (known ≡ true → HeadSaid f x at d) → (p : Parts) → r ≡ Some p → PartsAt f x own d p
 
-pub record PartsOf (f : Files) (x : Spot) (own nest : ℕ) (r : Parts) : Type 0 where
-  pub few : r.own ≤ own + nest
-  pub told : (d : Clause Plain) → nesting (clause_sexp d) ≤ nest → ClauseThere f x d → x.count + nest ≤ most_bytes → own + nest ≤ most_bytes → r.found ≡ is_plain d
-  pub parts : (d : Clause Plain) → nesting (clause_sexp d) ≤ nest → ClauseThere f x d → x.count + nest ≤ most_bytes → own + nest ≤ most_bytes → r.found ≡ true → PartsAt f x own d r
+pub record PartsOf (f : Files) (x : Spot) (own nest : ℕ) (r : Option Parts) : Type 0 where
+  pub few : (p : Parts) → r ≡ Some p → p.own ≤ own + nest
+  pub told : (d : Clause Plain) → nesting (clause_sexp d) ≤ nest → ClauseThere f x d → x.count + nest ≤ most_bytes → own + nest ≤ most_bytes → is_some r ≡ is_plain d
+  pub parts : (d : Clause Plain) → nesting (clause_sexp d) ≤ nest → ClauseThere f x d → x.count + nest ≤ most_bytes → own + nest ≤ most_bytes → (p : Parts) → r ≡ Some p → PartsAt f x own d p
 
 -- the parts of clause k at a spot, if the room is right on where the heads of rules stand
-pub record ClauseParts (f : Files) (room : List ℕ) (k : ℕ) (x : Spot) (r : Parts) : Type 0 where
-  pub few : r.own ≤ levels
-  pub told : (d : Clause Plain) → ClauseThere f x d → x.count ≤ levels → r.found ≡ is_plain d
-  pub parts : (d : Clause Plain) → ClauseThere f x d → x.count ≤ levels → (k < get_or room rules_word 0 → HeadSaid f x (get_or room (plus (heads.head_word 0) k) 0) d) → r.found ≡ true → PartsAt f x 0 d r
+pub record ClauseParts (f : Files) (room : List ℕ) (k : ℕ) (x : Spot) (r : Option Parts) : Type 0 where
+  pub few : (p : Parts) → r ≡ Some p → p.own ≤ levels
+  pub told : (d : Clause Plain) → ClauseThere f x d → x.count ≤ levels → is_some r ≡ is_plain d
+  pub parts : (d : Clause Plain) → ClauseThere f x d → x.count ≤ levels → (k < get_or room rules_word 0 → HeadSaid f x (get_or room (plus (heads.head_word 0) k) 0) d) → (p : Parts) → r ≡ Some p → PartsAt f x 0 d p
 
 -- whether the clause at a spot is such a one
 abbrev pub PlainAt : Files → Spot → Bool → Type 0
@@ -97,7 +93,7 @@ PlainAt f x r = (d : Clause Plain) → nesting (clause_sexp d) ≤ levels → Cl
 
 -- the same parts, with a head that is to be compared or is not
 abbrev pub with_head : Parts → Bool → Parts
-with_head p headed = record { found = p.found; own = p.own; body = p.body; headed = headed; goal = p.goal; head = p.head }
+with_head p headed = record { own = p.own; body = p.body; headed = headed; goal = p.goal; head = p.head }
 
 -- the word of the room that variable v of a frame is in
 abbrev pub variable_word : Spot → ℕ → ℕ

@@ -7,7 +7,7 @@ use Rattle.basics.specs.Choice.{maybe}
 use Rattle.harrop.specs.declared.Binding.TheVariants.{Candidate, Parameter}
 use Rattle.harrop.specs.Formula.{Term, Atom, Goal, Clause}
 use Rattle.harrop.specs.Bindings.{Bindings, replaced_atom, same_atom}
-use Rattle.harrop.specs.Place.{Candidates, AtHand, Hand, End, Plain, listed, allowed}
+use Rattle.harrop.specs.Place.{Candidates, Hand, End, Plain, listed, allowed}
 
 -- whether there is an answer
 abbrev pub is_some : {A : Type 0} → Option A → Bool

@@ -1,6 +1,6 @@
 -- What the functions of the yes or no say, for every place that stands in the room (document 01, "Which strip the search writes": whether a place has a proof within the height left).
 -- The places are those of crate harrop; `room` and `after` are the room's words before and after a call, and what the place relies on is kept.
-use Rattle.std.specs.Prelude.{ℕ, suc, ◌+◌, ◌*◌, ◌%◌, ◌≤◌, ◌<◌, ◌≡◌, Bool, true, false, List, ◌∷◌, length}
+use Rattle.std.specs.Prelude.{ℕ, suc, ◌+◌, ◌*◌, ◌%◌, ◌≤◌, ◌<◌, ◌≡◌, Bool, true, false, List, ◌∷◌, length, Option, Some, None}
 use Rattle.harrop.specs.declared.Binding.TheVariants.{Candidate}
 use Rattle.harrop.specs.Formula.{Term, Atom, Goal, Clause}
 use Rattle.harrop.specs.Bindings.{Bindings, replaced_atom}
@@ -10,7 +10,8 @@ use Rattle.packet.specs.Written.{clause_sexp}
 use Rattle.packet.specs.Barred.{clause_ok}
 use Rattle.packet.specs.declared.Word.{Word}
 use Rattle.room.specs.Layout.{words, levels, Enough}
-use Rattle.room.specs.Where.{Files, Framed, Means}
+use Rattle.room.specs.Where.{Framed, Means}
+use Rattle.room.specs.Files.{Files}
 use Rattle.room.specs.declared.Spot.{Spot}
 use Rattle.room.specs.declared.Where.{Where}
 use Rattle.proving.specs.Provable as provable
@@ -66,15 +67,20 @@ ProvingBy f room after w k left r =
     Ready f room ds us w (suc left) o c bs (Goal.atom a) →
     Answers (Stock f ds us w.supposed c) w.supposed w.top room after (provable.clause_does (listed us) o c (provable.serves (listed us) left o c bs a) k) r
 
--- the first clause that serves an atom, by number: none before it does, and it does, unless the number is that of all clauses
-pub record Finds (right : List ℕ → Type 0) (supposed top : ℕ) (room after : List ℕ) (all : ℕ) (does : ℕ → Bool) (r : ℕ) : Type 0 where
+-- a number below all that does, before which none does
+pub record FirstOf (all : ℕ) (does : ℕ → Bool) (k : ℕ) : Type 0 where
+  pub few : k < all
+  pub before : (j : ℕ) → j < k → does j ≡ false
+  pub here : does k ≡ true
+
+-- the first clause that serves an atom, by number: none before it does, and it does; or none of all does
+pub record Finds (right : List ℕ → Type 0) (supposed top : ℕ) (room after : List ℕ) (all : ℕ) (does : ℕ → Bool) (r : Option ℕ) : Type 0 where
   pub kept : Keeps right supposed top room after
-  pub few : r ≤ all
-  pub before : (j : ℕ) → j < r → does j ≡ false
-  pub here : r < all → does r ≡ true
+  pub one : (k : ℕ) → r ≡ Some k → FirstOf all does k
+  pub none : r ≡ None → (j : ℕ) → j < all → does j ≡ false
 
 -- where the numbers of the atom and of its predicate are known
-abbrev pub Finding : Files → List ℕ → List ℕ → Where → ℕ → ℕ → ℕ → ℕ → Type 0
+abbrev pub Finding : Files → List ℕ → List ℕ → Where → ℕ → ℕ → ℕ → Option ℕ → Type 0
 Finding f room after w predicate key left r =
     (ds : List (Clause Plain)) (us : List Term) (o : List Plain) (c : Hand Plain) (bs : Bindings) (a : Atom) →
     Ready f room ds us w (suc left) o c bs (Goal.atom a) →

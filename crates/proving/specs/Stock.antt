@@ -1,11 +1,12 @@
 -- What the search keeps in the room beside its stack (document 02, Three): the numbers of rules and candidates (crate keys), the heads of rules and their arguments (crate narrow) and the table of atoms (crate table). Nothing of document 01 is in it: what the table says is said by `provable`, and no answer depends on what it holds.
-use Rattle.std.specs.Prelude.{ℕ, zero, suc, ◌+◌, ◌≤◌, ◌<◌, ◌≡◌, Bool, true, false, List, [], ◌∷◌, length, take}
+use Rattle.std.specs.Prelude.{ℕ, zero, suc, ◌+◌, ◌≤◌, ◌<◌, ◌≡◌, true, false, List, [], ◌∷◌, length, take}
 use Rattle.std.proofs.Math.Option.{some}
 use Rattle.std.proofs.Math.ListN.{get_elem?}
 use Rattle.harrop.specs.Formula.{Term, Atom, Clause}
 use Rattle.harrop.specs.Bindings.{Bindings, replaced_atom}
 use Rattle.harrop.specs.Place.{AtHand, Hand, Plain, listed}
-use Rattle.room.specs.Where.{Files, Kept}
+use Rattle.room.specs.Where.{Kept}
+use Rattle.room.specs.Files.{Files}
 use Rattle.keys.specs.Keys.{KeysIn}
 use Rattle.narrow.specs.Heads.{HeadsIn}
 use Rattle.narrow.specs.Kept.{ArgumentsIn}

@@ -1,36 +1,25 @@
 // The head of a clause with no `and` on the way to it beside the atom that is searched, argument by argument, in one walk: a variable of the clause that is an argument and not set yet is set to what the atom has there, any other argument without an unset variable is compared.
 // An argument that is a compound term with an unset variable decides nothing (document 02, Three: the head decides before candidates are tried). Where there is none, the head is the atom whatever the variables that are left become, and is not compared again.
+// Kept: files, room and place stay parameters of their own. The room is written and comes back as another, the place is another at each call, and a struct of them would be made anew there.
 ghost use Rattle.std.specs.Prelude.{◌≡◌, ◌&&◌};
-ghost use Rattle.room.specs.Where.{files_of};
 ghost use Rattle.proving.specs.Filling.{is_never, is_same, Settling, Meeting};
 ghost use Rattle.proving.specs.Matching.{at_end, Matching, MatchingVariable};
 
-use crate::Going;
 use crate::plain::{Parts, compared, word_of};
 use harrop::Binding;
 use places::further;
-use room::{Spot, Where, part, push};
-use sexp::{After, Value, closes, past, same_text};
+use room::{Files, Spot, Where, push};
+use sexp::{closes, past, same_text};
 use start::may_use;
-use unset::{Forced, Likeness, candidate_at, compare, open_at};
+use unset::{Likeness, candidate_at, compare, open_at};
 
 // Variable v of the clause, not set yet, set to the lowest candidate that is the atom's term at a spot. Never: there is none, or it may not be used.
-fn force<'a>(
-    rules: &'a [u8],
-    goal: &'a [u8],
-    terms: &'a [u8],
-    room: &mut [u32],
-    w: Where,
-    p: Parts,
-    v: usize,
-    y: Spot,
-) -> Likeness
-    ensures { MatchingVariable (files_of rules.now goal.now terms.now) room.old room.new w p v y result }
+fn force(files: &Files, room: &mut [u32], w: Where, p: Parts, v: usize, y: Spot) -> Likeness
+    ensures { MatchingVariable files.now room.old room.new w p v y result }
 {
-    match candidate_at(rules, goal, terms, room, y) {
-        Forced::Nothing => Likeness::Never,
-        Forced::Never => Likeness::Never,
-        Forced::Candidate(c) => {
+    match candidate_at(files, room, y) {
+        None => Likeness::Never,
+        Some(c) => {
             if !may_use(room, w.parameters, c as usize) {
                 return Likeness::Never;
             }
@@ -41,21 +30,12 @@ fn force<'a>(
 }
 
 // An argument of the head beside the atom's.
-fn match_term<'a>(
-    rules: &'a [u8],
-    goal: &'a [u8],
-    terms: &'a [u8],
-    room: &mut [u32],
-    w: Where,
-    p: Parts,
-    x: Spot,
-    y: Spot,
-) -> Likeness
-    ensures { Matching (files_of rules.now goal.now terms.now) room.old room.new w p x y result }
+fn match_term(files: &Files, room: &mut [u32], w: Where, p: Parts, x: Spot, y: Spot) -> Likeness
+    ensures { Matching files.now room.old room.new w p x y result }
 {
-    match open_at(rules, goal, terms, room, x, p.own) {
-        Value::Is(v) => force(rules, goal, terms, room, w, p, v, y),
-        Value::Nothing => compare(rules, goal, terms, room, x, y, p.own),
+    match open_at(files, room, x, p.own) {
+        Some(v) => force(files, room, w, p, v, y),
+        None => compare(files, room, x, y, p.own),
     }
 }
 
@@ -63,11 +43,7 @@ fn match_term<'a>(
 fn is_never(l: Likeness) -> bool
     ensures { result ≡ is_never l }
 {
-    match l {
-        Likeness::Never => true,
-        Likeness::Open => false,
-        Likeness::Same => false,
-    }
+    matches!(l, Likeness::Never)
 }
 
 // Whether all arguments so far are the same whatever the unset variables become: those before, and this one.
@@ -95,26 +71,18 @@ fn at_end(ends: bool, sure: bool) -> Likeness
 }
 
 // The whole head.
-fn match_head<'a>(
-    rules: &'a [u8],
-    goal: &'a [u8],
-    terms: &'a [u8],
-    room: &mut [u32],
-    w: Where,
-    p: Parts,
-) -> Likeness
-    ensures { Settling (files_of rules.now goal.now terms.now) room.old room.new w p result }
+// Kept: two offsets, since both rows of arguments are walked in step and `past` says where each goes on; no index is counted.
+fn match_head(files: &Files, room: &mut [u32], w: Where, p: Parts) -> Likeness
+    ensures { Settling files.now room.old room.new w p result }
 {
     let x = p.head;
     let y = w.goal;
-    let a = x.source;
-    let b = y.source;
-    let s = part(rules, goal, terms, a, x.at);
-    let t = part(rules, goal, terms, b, y.at);
+    let s = files.part(x);
+    let t = files.part(y);
     if !same_text(s, 7, t, 7) {
         return Likeness::Never;
     }
-    let After::Next(n) = past(s, 7, 0) else {
+    let Some(n) = past(s, 7, 0) else {
         return Likeness::Open;
     };
     let mut i = n;
@@ -124,15 +92,15 @@ fn match_head<'a>(
         if closes(t, j) {
             return Likeness::Never;
         }
-        let l = match_term(rules, goal, terms, room, w, p, further(x, i), further(y, j));
+        let l = match_term(files, room, w, p, further(x, i), further(y, j));
         if is_never(l) {
             return Likeness::Never;
         }
         sure = still(sure, l);
-        let After::Next(m) = past(s, i, 64) else {
+        let Some(m) = past(s, i, 64) else {
             return Likeness::Open;
         };
-        let After::Next(k) = past(t, j, 64) else {
+        let Some(k) = past(t, j, 64) else {
             return Likeness::Open;
         };
         i = m;
@@ -142,22 +110,15 @@ fn match_head<'a>(
 }
 
 // The head beside the atom, if there is one to compare: what is left to be searched, if anything. A head that is the atom whatever its variables become is not compared again.
-pub fn meet<'a>(
-    rules: &'a [u8],
-    goal: &'a [u8],
-    terms: &'a [u8],
-    room: &mut [u32],
-    w: Where,
-    p: Parts,
-) -> Going
-    ensures { Meeting (files_of rules.now goal.now terms.now) room.old room.new w p result }
+pub fn meet(files: &Files, room: &mut [u32], w: Where, p: Parts) -> Option<Parts>
+    ensures { Meeting files.now room.old room.new w p result }
 {
     if !p.headed {
-        return Going::On(p);
+        return Some(p);
     }
-    match match_head(rules, goal, terms, room, w, p) {
-        Likeness::Never => Going::Never,
-        Likeness::Open => Going::On(p),
-        Likeness::Same => Going::On(compared(p)),
+    match match_head(files, room, w, p) {
+        Likeness::Never => None,
+        Likeness::Open => Some(p),
+        Likeness::Same => Some(compared(p)),
     }
 }

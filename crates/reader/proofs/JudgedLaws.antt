@@ -7,6 +7,8 @@ use mathlib.Core.Option.{Option, none, some}
 use native.Mathlib.Omega.{arith}
 use lib.ListN.{length}
 use borrow.Author.Tests.{lt-ltb, le-ltb}
+use Rattle.std.specs.Prelude.{Result, Ok, Err, MatchResult, IsErrAnd}
+use Rattle.std.proofs.lemmas.Result.{err_from_is_err_and}
 use Rattle.basics.specs.Choice.{choose, maybe, nope}
 use Rattle.sexp.specs.declared.carrier.Carrier.{Carrier}
 use Rattle.sexp.specs.declared.carrier.Carrier.TheVariants as C
@@ -20,16 +22,6 @@ use Rattle.packet.specs.declared.File.{File}
 use Rattle.packet.specs.declared.File.TheVariants as F
 use Rattle.packet.specs.declared.Reason.{Reason}
 use Rattle.packet.specs.declared.Reason.TheVariants as R
-use Rattle.reader.specs.declared.shape.Shape.{Shape}
-use Rattle.reader.specs.declared.shape.Shape.TheVariants as S
-use Rattle.reader.specs.declared.bars.Bars.{Bars}
-use Rattle.reader.specs.declared.bars.Bars.TheVariants as B
-use Rattle.reader.specs.declared.count.Count.{Count}
-use Rattle.reader.specs.declared.count.Count.TheVariants as N
-use Rattle.reader.specs.declared.files.Judged.{Judged}
-use Rattle.reader.specs.declared.files.Judged.TheVariants as J
-use Rattle.reader.specs.declared.files.Read as code
-use Rattle.reader.specs.declared.files.Read.TheVariants as P
 use Rattle.packet.specs.Wrong.{is_text, begins, wrong}
 use Rattle.reader.specs.Shape.{shape_of}
 use Rattle.packet.specs.Barred.{Holds, barred}
@@ -37,18 +29,21 @@ use Rattle.reader.specs.Bars.{bars_of}
 use Rattle.packet.specs.Read.{all_of, members_of, rest_of, goal_of, rules_of, candidates_of, strip_of}
 use Rattle.packet.specs.File.{counted, holds, member_at, surplus, long, faulty, deep, unbuilt, many, unsound, tests, first_of, refusal_of, Outcome, and_then, expression_of, file_of, Books, books_of, packet_of}
 use Rattle.packet.specs.Refusal.{number, members_after}
-use Rattle.reader.specs.Judged.{count_in, number_of, bars_judged, sizes_judged, words_judged, judged_of, after_file, terms_read, goal_read, strip_read, books_read, packet_read}
+use Rattle.reader.specs.declared.files.Fault.{Fault}
+use Rattle.reader.specs.declared.files.Refusal.{Refusal}
+use Rattle.reader.specs.declared.files.Counts.{Counts}
+use Rattle.reader.specs.Judged.{at_fault, refused, in_file, of_file, sound, count_in, number_of, bars_judged, sizes_judged, words_judged, judged_of, after_file, terms_read, goal_read, strip_read, books_read, packet_read}
 
 -- refusal 5
-abbrev by_bars : Bars → ℕ → Judged
-by_bars (B.At o) n = J.Refused R.Barred o
-by_bars (B.Clear to) n = J.Sound n
+abbrev by_bars : Result ℕ ℕ → ℕ → Result ℕ Fault
+by_bars (Err o) n = at_fault R.Barred o
+by_bars (Ok to) n = Ok n
 
-pub bars-judged : (k : Kind) (n : ℕ) (e : Sexp) (h : Holds) (r r' : Bars) → h ≡ holds k → r ≡ r' → r ≡ bars_of h 0 0 e → by_bars r' n ≡ bars_judged k n e
+pub bars-judged : (k : Kind) (n : ℕ) (e : Sexp) (h : Holds) (r r' : Result ℕ ℕ) → h ≡ holds k → r ≡ r' → r ≡ bars_of h 0 0 e → by_bars r' n ≡ bars_judged k n e
 unfolding bars_of bars_judged
-bars-judged k n e h r r' t u v = ap (λ (b : Bars). by_bars b n) (sym u ∙ v) ∙ ap (λ (x : Bool). by_bars (bars_of x 0 0 e) n) t ∙ go (barred (holds k) 0 0 e)
+bars-judged k n e h r r' t u v = ap (λ (b : Result ℕ ℕ). by_bars b n) (sym u ∙ v) ∙ ap (λ (x : Bool). by_bars (bars_of x 0 0 e) n) t ∙ go (barred (holds k) 0 0 e)
   where
-    go : (o : Option ℕ) → by_bars (maybe o (B.Clear (0 + length (spell e))) B.At) n ≡ maybe o (J.Sound n) (J.Refused R.Barred)
+    go : (o : Option ℕ) → by_bars (maybe o (Ok (0 + length (spell e))) Err) n ≡ maybe o (Ok n) (at_fault R.Barred)
     go none = refl
     go (some o) = refl
 
@@ -79,49 +74,39 @@ counted-worded K.Terms t e h = worded e (wrong K.Terms 0) (λ w n. nope (sym n))
 counted-worded K.Strip t e h = absurd (false≢true t)
 
 -- refusal 6
-module _ (k : Kind) (t : counted k ≡ true) (s : List ℕ) (r : Count) (f : (xs : Sexps) → StandsAll s 1 xs → nestings xs ≤ 64 → r ≡ count_in 1 xs) (e : Sexp) (h : wrong k 0 e ≡ none) (g : Stands s 0 e) (l : nesting e ≤ 64) where
+module _ (k : Kind) (t : counted k ≡ true) (s : List ℕ) (r : Result ℕ ℕ) (f : (xs : Sexps) → StandsAll s 1 xs → nestings xs ≤ 64 → r ≡ count_in 1 xs) (e : Sexp) (h : wrong k 0 e ≡ none) (g : Stands s 0 e) (l : nesting e ≤ 64) where
   told : (w : Worded e) → r ≡ count_in 1 (cons w.word w.others)
   told w =
       let g' = subst (Stands s 0) w.whole g in
       let n = ap nesting w.whole in
       f (cons w.word w.others) (members-stand g') (omega arith)
 
-  whole : (w : Worded e) → sizes_judged k e ≡ maybe (member_at 257 1 (cons w.word w.others)) (bars_judged k (number w.others) e) (J.Refused R.Many)
+  whole : (w : Worded e) → sizes_judged k e ≡ maybe (member_at 257 1 (cons w.word w.others)) (bars_judged k (number w.others) e) (at_fault R.Many)
   unfolding sizes_judged surplus number_of
   whole w =
-      ap₂ (λ (o : Option ℕ) (n : ℕ). maybe o (bars_judged k n e) (J.Refused R.Many))
+      ap₂ (λ (o : Option ℕ) (n : ℕ). maybe o (bars_judged k n e) (at_fault R.Many))
       (ap (surplus k) w.whole ∙ ap (λ (b : Bool). choose b (member_at 257 1 (cons w.word w.others)) none) t)
       (ap (λ (b : Bool). choose b (members_after e) 0) t ∙ ap members_after w.whole)
 
-  pub count-over : {o : ℕ} → r ≡ N.Over o → J.Refused R.Many o ≡ sizes_judged k e
+  pub count-over : {o : ℕ} → r ≡ Err o → at_fault R.Many o ≡ sizes_judged k e
   unfolding count_in
   count-over {o} u =
       let w = counted-worded k t e h in
       go (member_at 257 1 (cons w.word w.others)) (number w.others) (sym u ∙ told w) ∙ sym (whole w)
     where
-      go : (m : Option ℕ) (n : ℕ) → N.Over o ≡ maybe m (N.Are (suc n)) N.Over → J.Refused R.Many o ≡ maybe m (bars_judged k n e) (J.Refused R.Many)
+      go : (m : Option ℕ) (n : ℕ) → Err o ≡ maybe m (Ok (suc n)) Err → at_fault R.Many o ≡ maybe m (bars_judged k n e) (at_fault R.Many)
       go none n q = let z : ◌≡◌ {A = ℕ} 0 1 = cc in absurd (omega arith)
-      go (some i) n q = let z : o ≡ i = cc in ap (J.Refused R.Many) z
+      go (some i) n q = let z : o ≡ i = cc in ap (at_fault R.Many) z
 
-  pub count-are : {n : ℕ} {j : Judged} → r ≡ N.Are n → j ≡ bars_judged k (n - 1) e → j ≡ sizes_judged k e
+  pub count-are : {n : ℕ} {j : Result ℕ Fault} → r ≡ Ok n → j ≡ bars_judged k (n - 1) e → j ≡ sizes_judged k e
   unfolding count_in
   count-are {n} {j} u v =
       let w = counted-worded k t e h in
       go (member_at 257 1 (cons w.word w.others)) (number w.others) (sym u ∙ told w) ∙ sym (whole w)
     where
-      go : (m : Option ℕ) (i : ℕ) → N.Are n ≡ maybe m (N.Are (suc i)) N.Over → j ≡ maybe m (bars_judged k i e) (J.Refused R.Many)
+      go : (m : Option ℕ) (i : ℕ) → Ok n ≡ maybe m (Ok (suc i)) Err → j ≡ maybe m (bars_judged k i e) (at_fault R.Many)
       go none i q = let z : n ≡ suc i = cc in v ∙ ap (λ (x : ℕ). bars_judged k x e) (omega arith)
       go (some o) i q = let z : ◌≡◌ {A = ℕ} 0 1 = cc in absurd (omega arith)
-
-  pub count-some : {n : ℕ} {j : Judged} → r ≡ N.Are n → n ≡ 0 → j ≡ sizes_judged k e
-  unfolding count_in
-  count-some {n} {j} u z =
-      let w = counted-worded k t e h in
-      absurd (go (member_at 257 1 (cons w.word w.others)) (number w.others) (sym u ∙ told w))
-    where
-      go : (m : Option ℕ) (i : ℕ) → N.Are n ≡ maybe m (N.Are (suc i)) N.Over → ⊥
-      go none i q = let y : n ≡ suc i = cc in omega arith
-      go (some o) i q = let y : ◌≡◌ {A = ℕ} 0 1 = cc in omega arith
 
 -- a file whose members are not counted
 few : (k : Kind) (e : Sexp) → counted k ≡ false → surplus k e ≡ none
@@ -130,32 +115,32 @@ few k (str w) t = refl
 few k (hinted h w) t = refl
 few k (list xs) t = ap (λ (b : Bool). choose b (member_at 257 1 xs) none) t
 
-pub not-counted : (k : Kind) (e : Sexp) (j : Judged) → counted k ≡ false → j ≡ bars_judged k 0 e → j ≡ sizes_judged k e
+pub not-counted : (k : Kind) (e : Sexp) (j : Result ℕ Fault) → counted k ≡ false → j ≡ bars_judged k 0 e → j ≡ sizes_judged k e
 unfolding sizes_judged number_of
 not-counted k e j t v =
     v
-    ∙ sym (ap₂ (λ (o : Option ℕ) (n : ℕ). maybe o (bars_judged k n e) (J.Refused R.Many)) (few k e t) (ap (λ (b : Bool). choose b (members_after e) 0) t))
+    ∙ sym (ap₂ (λ (o : Option ℕ) (n : ℕ). maybe o (bars_judged k n e) (at_fault R.Many)) (few k e t) (ap (λ (b : Bool). choose b (members_after e) 0) t))
 
 -- refusal 4
-pub words-wrong : (k : Kind) (e : Sexp) (r : Shape) {o : ℕ} → r ≡ S.Wrong o → r ≡ shape_of k 0 e → J.Refused R.Words o ≡ words_judged k e
+pub words-wrong : (k : Kind) (e : Sexp) (r : Result ℕ ℕ) {o : ℕ} → r ≡ Err o → r ≡ shape_of k 0 e → at_fault R.Words o ≡ words_judged k e
 unfolding shape_of words_judged
 words-wrong k e r {o} u v = go (wrong k 0 e) (sym u ∙ v)
   where
-    go : (m : Option ℕ) → S.Wrong o ≡ maybe m (S.Past (0 + length (spell e))) S.Wrong → J.Refused R.Words o ≡ maybe m (sizes_judged k e) (J.Refused R.Words)
+    go : (m : Option ℕ) → Err o ≡ maybe m (Ok (0 + length (spell e))) Err → at_fault R.Words o ≡ maybe m (sizes_judged k e) (at_fault R.Words)
     go none q = let z : ◌≡◌ {A = ℕ} 0 1 = cc in absurd (omega arith)
-    go (some i) q = let z : o ≡ i = cc in ap (J.Refused R.Words) z
+    go (some i) q = let z : o ≡ i = cc in ap (at_fault R.Words) z
 
-pub words-past : (k : Kind) (e : Sexp) (r : Shape) {to : ℕ} → r ≡ S.Past to → r ≡ shape_of k 0 e → wrong k 0 e ≡ none
+pub words-past : (k : Kind) (e : Sexp) (r : Result ℕ ℕ) {to : ℕ} → r ≡ Ok to → r ≡ shape_of k 0 e → wrong k 0 e ≡ none
 unfolding shape_of
 words-past k e r {to} u v = go (wrong k 0 e) (sym u ∙ v)
   where
-    go : (m : Option ℕ) → S.Past to ≡ maybe m (S.Past (0 + length (spell e))) S.Wrong → m ≡ none
+    go : (m : Option ℕ) → Ok to ≡ maybe m (Ok (0 + length (spell e))) Err → m ≡ none
     go none q = refl
     go (some i) q = let z : ◌≡◌ {A = ℕ} 0 1 = cc in absurd (omega arith)
 
-pub words_right : (k : Kind) (e : Sexp) (j : Judged) → wrong k 0 e ≡ none → j ≡ sizes_judged k e → j ≡ words_judged k e
+pub words_right : (k : Kind) (e : Sexp) (j : Result ℕ Fault) → wrong k 0 e ≡ none → j ≡ sizes_judged k e → j ≡ words_judged k e
 unfolding words_judged
-words_right k e j h v = v ∙ sym (ap (λ (m : Option ℕ). maybe m (sizes_judged k e) (J.Refused R.Words)) h)
+words_right k e j h v = v ∙ sym (ap (λ (m : Option ℕ). maybe m (sizes_judged k e) (at_fault R.Words)) h)
 
 -- one test, and then the others
 abbrev first_by : Option ℕ → Reason → Option (Reason × ℕ) → Option (Reason × ℕ)
@@ -165,8 +150,8 @@ chain : (k : Kind) (s : List ℕ) → refusal_of k s ≡ first_by (long k s) R.L
 unfolding refusal_of first_of tests
 chain k s = refl
 
-abbrev as_judged : ℕ → Option (Reason × ℕ) → Judged
-as_judged n o = maybe o (J.Sound n) (λ r. J.Refused r.0 r.1)
+abbrev as_judged : ℕ → Option (Reason × ℕ) → Result ℕ Fault
+as_judged n o = maybe o (Ok n) (λ r. at_fault r.0 r.1)
 
 module _ (k : Kind) (s : List ℕ) where
   judged-is : judged_of k s ≡ as_judged (number_of k (expression_of s)) (first_by (long k s) R.Long (first_by (faulty k s) R.Carrier (first_by (deep k s) R.Deep (first_by (unbuilt k s) R.Words (first_by (many k s) R.Many (first_by (unsound k s) R.Barred none))))))
@@ -174,7 +159,7 @@ module _ (k : Kind) (s : List ℕ) where
   judged-is = ap (as_judged (number_of k (expression_of s))) (chain k s)
 
   -- refusal 1
-  pub file-long : 16384 < length s → J.Refused R.Long 16384 ≡ judged_of k s
+  pub file-long : 16384 < length s → at_fault R.Long 16384 ≡ judged_of k s
   unfolding long
   file-long h =
       sym (judged-is
@@ -206,14 +191,14 @@ module _ (k : Kind) (s : List ℕ) where
         after-long
         ∙ ap (λ (x : Carrier). as_judged (number_of k (expression_of s)) (first_by (faulty_by x) R.Carrier (first_by (deep_by x) R.Deep (first_by (unbuilt k s) R.Words (first_by (many k s) R.Many (first_by (unsound k s) R.Barred none)))))) e
 
-    pub file-fault : (c : Carrier) {o : ℕ} → c ≡ C.Fault o → c ≡ carrier_of 64 s → J.Refused R.Carrier o ≡ judged_of k s
+    pub file-fault : (c : Carrier) {o : ℕ} → c ≡ C.Fault o → c ≡ carrier_of 64 s → at_fault R.Carrier o ≡ judged_of k s
     file-fault c {o} u v = sym (by-carrier (C.Fault o) (sym v ∙ u))
 
-    pub file-deep : (c : Carrier) {o : ℕ} → c ≡ C.Deep o → c ≡ carrier_of 64 s → J.Refused R.Deep o ≡ judged_of k s
+    pub file-deep : (c : Carrier) {o : ℕ} → c ≡ C.Deep o → c ≡ carrier_of 64 s → at_fault R.Deep o ≡ judged_of k s
     file-deep c {o} u v = sym (by-carrier (C.Deep o) (sym v ∙ u))
 
     -- refusals 4, 6 and 5
-    pub file-sound : (c : Carrier) → c ≡ C.Sound → c ≡ carrier_of 64 s → (j : Judged) → ((e : Sexp) → Stands s 0 e → nesting e ≤ 64 → j ≡ words_judged k e) → j ≡ judged_of k s
+    pub file-sound : (c : Carrier) → c ≡ C.Sound → c ≡ carrier_of 64 s → (j : Result ℕ Fault) → ((e : Sexp) → Stands s 0 e → nesting e ≤ 64 → j ≡ words_judged k e) → j ≡ judged_of k s
     unfolding unbuilt many unsound expression_of words_judged sizes_judged bars_judged
     file-sound c u v j f =
         let (e, r, w, t, n) = what-is-sound-is-read s 64 (sym v ∙ u) in
@@ -221,7 +206,7 @@ module _ (k : Kind) (s : List ℕ) where
         ∙ sym (go (number_of k e) (wrong k 0 e) (surplus k e) (barred (holds k) 0 0 e))
         ∙ sym (by-carrier C.Sound (sym v ∙ u) ∙ ap (λ (o : Option Sexp). as_judged (number_of k (maybe o (str []) λ x. x)) (first_by (maybe o none λ x. wrong k 0 x) R.Words (first_by (maybe o none λ x. surplus k x) R.Many (first_by (maybe o none λ x. barred (holds k) 0 0 x) R.Barred none)))) r)
       where
-        go : (i : ℕ) (w m b : Option ℕ) → as_judged i (first_by w R.Words (first_by m R.Many (first_by b R.Barred none))) ≡ maybe w (maybe m (maybe b (J.Sound i) (J.Refused R.Barred)) (J.Refused R.Many)) (J.Refused R.Words)
+        go : (i : ℕ) (w m b : Option ℕ) → as_judged i (first_by w R.Words (first_by m R.Many (first_by b R.Barred none))) ≡ maybe w (maybe m (maybe b (Ok i) (at_fault R.Barred)) (at_fault R.Many)) (at_fault R.Words)
         go i (some o) m b = refl
         go i none (some o) b = refl
         go i none none (some o) = refl
@@ -251,11 +236,31 @@ candidates-number e = after-word _ e
 abbrev file_by : {A : Type 0} → Option (Reason × ℕ) → File → A → Outcome A
 file_by o f a = elim o [ none ↦ Outcome.sound a | some r ↦ Outcome.refused r.0 f r.1 ]
 
-pub file-refused : (j : Judged) (f : File) (next : ℕ → code.Read) (want : Judged) {r : Reason} {at : ℕ} → j ≡ J.Refused r at → j ≡ want → P.Refused r f at ≡ after_file want f next
-file-refused j f next want u v = ap (λ (x : Judged). after_file x f next) (sym u ∙ v)
+pub file-refused : (j : Result ℕ Fault) (f : File) (next : ℕ → Result Counts Refusal) (want : Result ℕ Fault) {r : Reason} {at : ℕ} → j ≡ at_fault r at → j ≡ want → refused r f at ≡ after_file want f next
+file-refused j f next want u v = ap (λ (x : Result ℕ Fault). after_file x f next) (sym u ∙ v)
 
-pub file-read : (j : Judged) (f : File) (next : ℕ → code.Read) (want : Judged) {n : ℕ} → j ≡ J.Sound n → j ≡ want → next n ≡ after_file want f next
-file-read j f next want u v = ap (λ (x : Judged). after_file x f next) (sym u ∙ v)
+pub file-read : (j : Result ℕ Fault) (f : File) (next : ℕ → Result Counts Refusal) (want : Result ℕ Fault) {n : ℕ} → j ≡ Ok n → j ≡ want → next n ≡ after_file want f next
+file-read j f next want u v = ap (λ (x : Result ℕ Fault). after_file x f next) (sym u ∙ v)
+
+-- the same, where its fault is told with the file
+pub told-file : (j : Result ℕ Fault) (q : Result ℕ Refusal) (f : File) {P : Fault → Refusal → Type 0} → ((x : Fault) (y : Refusal) → P x y → y ≡ in_file x f) → MatchResult j (λ n. q ≡ Ok n) (λ x. IsErrAnd q (P x)) → q ≡ of_file j f
+told-file (Ok n) q f g h = h
+told-file (Err x) q f g h = let (y, e, p) = err_from_is_err_and q h in e ∙ ap Err (g x y p)
+
+module _ (j : Result ℕ Fault) (f : File) (next : ℕ → Result Counts Refusal) where
+  pub told-refused : {x : Refusal} → Err x ≡ of_file j f → Err x ≡ after_file j f next
+  told-refused {x} e = go j e
+    where
+      go : (i : Result ℕ Fault) → Err x ≡ of_file i f → Err x ≡ after_file i f next
+      go (Ok n) q = let z : ◌≡◌ {A = ℕ} 0 1 = cc in absurd (omega arith)
+      go (Err y) q = ap Err (let z : x ≡ in_file y f = cc in z)
+
+  pub told-read : {n : ℕ} → Ok n ≡ of_file j f → next n ≡ after_file j f next
+  told-read {n} e = go j e
+    where
+      go : (i : Result ℕ Fault) → Ok n ≡ of_file i f → next n ≡ after_file i f next
+      go (Ok m) q = ap next (let z : n ≡ m = cc in z)
+      go (Err y) q = let z : ◌≡◌ {A = ℕ} 0 1 = cc in absurd (omega arith)
 
 -- the files of a search, and those of a checker
 pub books-are : (rs gs ts : List ℕ) → after_file (judged_of K.Rules rs) F.Rules (λ n. goal_read n gs ts) ≡ books_read (books_of rs gs ts)
@@ -263,31 +268,31 @@ unfolding goal_read terms_read books_of file_of judged_of
 books-are rs gs ts = go (refusal_of K.Rules rs) (refusal_of K.Goal gs) (refusal_of K.Terms ts)
   where
     go : (a b c : Option (Reason × ℕ))
-        → after_file (as_judged (number_of K.Rules (expression_of rs)) a) F.Rules (λ n. after_file (as_judged (number_of K.Goal (expression_of gs)) b) F.Goal λ i. after_file (as_judged (number_of K.Terms (expression_of ts)) c) F.Terms λ m. P.Sound n m)
+        → after_file (as_judged (number_of K.Rules (expression_of rs)) a) F.Rules (λ n. after_file (as_judged (number_of K.Goal (expression_of gs)) b) F.Goal λ i. after_file (as_judged (number_of K.Terms (expression_of ts)) c) F.Terms λ m. sound n m)
         ≡ books_read (and_then (file_by a F.Rules (rules_of (expression_of rs))) λ ds. and_then (file_by b F.Goal (goal_of (expression_of gs))) λ g. and_then (file_by c F.Terms (candidates_of (expression_of ts))) λ us. Outcome.sound (record { rules = ds; goal = g; candidates = us }))
     go (some r) b c = refl
     go none (some r) c = refl
     go none none (some r) = refl
-    go none none none = ap₂ P.Sound (sym (rules-number (expression_of rs))) (sym (candidates-number (expression_of ts)))
+    go none none none = ap₂ sound (sym (rules-number (expression_of rs))) (sym (candidates-number (expression_of ts)))
 
-abbrev after_books : code.Read → (ℕ → ℕ → code.Read) → code.Read
-after_books (P.Sound n m) f = f n m
-after_books (P.Refused r x at) f = P.Refused r x at
+abbrev after_books : Result Counts Refusal → (ℕ → ℕ → Result Counts Refusal) → Result Counts Refusal
+after_books (Ok x) f = f x.rules x.candidates
+after_books (Err x) f = Err x
 
 packet-by : (rs gs ts ss : List ℕ) → after_books (books_read (books_of rs gs ts)) (λ n m. strip_read n m ss) ≡ packet_read (packet_of rs gs ts ss)
 unfolding strip_read packet_of file_of judged_of
 packet-by rs gs ts ss = go (books_of rs gs ts) (refusal_of K.Strip ss)
   where
     go : (o : Outcome Books) (a : Option (Reason × ℕ))
-        → after_books (books_read o) (λ n m. after_file (as_judged (number_of K.Strip (expression_of ss)) a) F.Strip λ i. P.Sound n m)
+        → after_books (books_read o) (λ n m. after_file (as_judged (number_of K.Strip (expression_of ss)) a) F.Strip λ i. sound n m)
         ≡ packet_read (and_then o λ b. and_then (file_by a F.Strip (strip_of (expression_of ss))) λ p. Outcome.sound (record { books = b; strip = p }))
     go (Outcome.refused r f at) a = refl
     go (Outcome.sound b) none = refl
     go (Outcome.sound b) (some r) = refl
 
-module _ (rs gs ts ss : List ℕ) (p : code.Read) (h : p ≡ books_read (books_of rs gs ts)) where
-  pub packet-refused : {r : Reason} {f : File} {at : ℕ} → p ≡ P.Refused r f at → P.Refused r f at ≡ packet_read (packet_of rs gs ts ss)
-  packet-refused u = ap (λ (x : code.Read). after_books x (λ n m. strip_read n m ss)) (sym u ∙ h) ∙ packet-by rs gs ts ss
+module _ (rs gs ts ss : List ℕ) (p : Result Counts Refusal) (h : p ≡ books_read (books_of rs gs ts)) where
+  pub packet-refused : {r : Reason} {f : File} {at : ℕ} → p ≡ refused r f at → refused r f at ≡ packet_read (packet_of rs gs ts ss)
+  packet-refused u = ap (λ (x : Result Counts Refusal). after_books x (λ n m. strip_read n m ss)) (sym u ∙ h) ∙ packet-by rs gs ts ss
 
-  pub packet-read : {n m : ℕ} → p ≡ P.Sound n m → strip_read n m ss ≡ packet_read (packet_of rs gs ts ss)
-  packet-read u = ap (λ (x : code.Read). after_books x (λ n m. strip_read n m ss)) (sym u ∙ h) ∙ packet-by rs gs ts ss
+  pub packet-read : {n m : ℕ} → p ≡ sound n m → strip_read n m ss ≡ packet_read (packet_of rs gs ts ss)
+  packet-read u = ap (λ (x : Result Counts Refusal). after_books x (λ n m. strip_read n m ss)) (sym u ∙ h) ∙ packet-by rs gs ts ss

@@ -1,12 +1,12 @@
 -- The number of a word's octets tells the word: no two strings have the same number, so the code's match on it finds the word of the table.
-use Prim.Native.Nat.{ℕ, zero, suc, ◌+◌, ◌-◌, ◌*◌, ◌≤◌, ◌<◌}
-use mathlib.Core.Path.{◌≡◌, refl, sym, ◌∙◌, ap, ap₂, subst}
+use Prim.Native.Nat.{ℕ, zero, suc, ◌+◌, ◌*◌, ◌≤◌, ◌<◌}
+use mathlib.Core.Path.{◌≡◌, refl, sym, ◌∙◌, ap, ap₂}
 use mathlib.Core.Bool.{Bool, true, false, ◌&&◌}
 use mathlib.Core.List.{List, [], ◌∷◌}
 use native.Mathlib.Numerals.{add-one}
 use native.Mathlib.Omega.{arith}
 use lib.Dec.{leb, ltb}
-use lib.ListN.{length, get_or, take, drop, length-take, length-drop}
+use lib.ListN.{length, get_or, drop, take}
 use lib.Seq.{drop-cons}
 use borrow.Author.Tests.{leb-true, ltb-true, ltb-false}
 use Rattle.basics.specs.Choice.{choose, both_true}
@@ -102,65 +102,52 @@ longer (r ∷ rs) w l h =
     let n = leb-true (length r.0) 5 a in
     ap (λ (t : Bool). choose t r.1 (look_for w rs)) (differ w r.0 (λ q. let z = ap length q in omega arith)) ∙ longer rs w l b
 
-pub too_long : (s : List ℕ) (a n : ℕ) → a + n ≤ length s → 5 < n → W.Nothing ≡ word_of (take n (drop a s))
+pub too_long : (w : List ℕ) → 5 < length w → W.Nothing ≡ word_of w
 unfolding word_of
-too_long s a n p h = sym (longer words (take n (drop a s)) (simp (length-take, length-drop) (omega arith)) refl)
+too_long w h = sym (longer words w h refl)
 
--- the octets are being read: k is the number of those before, and the rest are still to come
-pub record Part (w rest : List ℕ) (k : ℕ) : Type 0 where
-  pub octets : Octets rest → Octets w
-  pub key : key_from k rest ≡ key_of w
+-- the octets are being read: k is the number of those before i, and the rest are still to come
+pub key-start : (w : List ℕ) → key_from 1 (drop 0 w) ≡ key_of w
+unfolding key_of
+key-start w = refl
 
-cut : (s : List ℕ) (a i n : ℕ) → a + n ≤ length s → i < n → take (n - i) (drop (a + i) s) ≡ get_or s (a + i) 0 ∷ take (n - (i + 1)) (drop (a + (i + 1)) s)
-cut s a i n p h =
-    let e : n - i ≡ suc (n - (i + 1)) = omega arith in
-    let q : suc (a + i) ≡ a + (i + 1) = omega arith in
-    ap₂ (λ (m : ℕ) (l : List ℕ). take m l) e (drop-cons s (a + i) 0 (omega arith) ∙ ap (λ (m : ℕ). get_or s (a + i) 0 ∷ drop m s) q)
+pub key-next : (w : List ℕ) (i k : ℕ) → i < length w → key_from k (drop i w) ≡ key_of w → key_from (k * 256 + get_or w i 0) (drop (i + 1) w) ≡ key_of w
+unfolding key_from
+key-next w i k h e = sym (ap (key_from k) (drop-cons w i 0 h ∙ ap (λ (m : ℕ). get_or w i 0 ∷ drop m w) {x = suc i} {y = i + 1} (omega arith))) ∙ e
 
-module _ (s : List ℕ) (a n : ℕ) where
-  -- those left after i
-  abbrev pub left : ℕ → List ℕ
-  left i = take (n - i) (drop (a + i) s)
+pub key-end : (w : List ℕ) (k : ℕ) → ((i : ℕ) → get_or w i 0 < 256) → key_from k (drop (length w) w) ≡ key_of w → Keyed w k
+unfolding key_from
+key-end w k o e = record { octets = all w o; key = sym (ap (key_from k) (nothing w)) ∙ e }
+  where
+    all : (v : List ℕ) → ((i : ℕ) → get_or v i 0 < 256) → Octets v
+    all [] f = tt
+    all (c ∷ v) f = (f 0, all v (λ i. f (suc i)))
 
-  pub part-start : Part (take n (drop a s)) (left 0) 1
-  unfolding key_of
-  part-start =
-      let e : left 0 ≡ take n (drop a s) = ap (λ (m : ℕ). take m (drop (a + 0) s)) {x = n - 0} {y = n} (omega arith) ∙ ap (λ (m : ℕ). take n (drop m s)) {x = a + 0} {y = a} (omega arith) in
-      record { octets = λ o. subst Octets e o; key = ap (key_from 1) e }
+    nothing : (v : List ℕ) → drop (length v) v ≡ []
+    nothing [] = refl
+    nothing (c ∷ v) = nothing v
 
-  pub part-next : (i k : ℕ) → a + n ≤ length s → i < n → get_or s (a + i) 0 < 256 → Part (take n (drop a s)) (left i) k → Part (take n (drop a s)) (left (i + 1)) (k * 256 + get_or s (a + i) 0)
-  unfolding key_from
-  part-next i k p h b q =
-      let e = cut s a i n p h in
-      record { octets = λ o. q.octets (subst Octets (sym e) (b, o)); key = sym (ap (key_from k) e) ∙ q.key }
-
-  pub part_end : (i k : ℕ) → n ≤ i → Part (take n (drop a s)) (left i) k → Keyed (take n (drop a s)) k
-  unfolding key_from
-  part_end i k h q =
-      let e : left i ≡ [] = ap (λ (m : ℕ). take m (drop (a + i) s)) {x = n - i} {y = 0} (omega arith) in
-      record { octets = q.octets (subst Octets (sym e) tt); key = sym (ap (key_from k) e) ∙ q.key }
-
--- the number of three octets and of four, read at once
+-- the number of three octets and of four, from an offset of any bytes
 module _ (s : List ℕ) (a : ℕ) (o : (i : ℕ) → get_or s i 0 < 256) where
   abbrev pub three : ℕ
   three = 16777216 + get_or s a 0 * 65536 + get_or s (a + 1) 0 * 256 + get_or s (a + 2) 0
 
-  part-three : (n : ℕ) → a + n ≤ length s → 3 ≤ n → Part (take n (drop a s)) (left s a n 3) three
-  part-three n p h =
-      let z = ap (λ (i : ℕ). get_or s i 0) {x = a + 0} {y = a} (omega arith) in
-      let k = 1 * 256 + get_or s (a + 0) 0 in
-      let one = part-next s a n 0 1 p (omega arith) (o (a + 0)) (part-start s a n) in
-      let two = part-next s a n 1 k p (omega arith) (o (a + 1)) one in
-      subst (λ (x : ℕ). Part (take n (drop a s)) (left s a n 3) x) {x = (k * 256 + get_or s (a + 1) 0) * 256 + get_or s (a + 2) 0} {y = three} (omega (arith, z))
-      (part-next s a n 2 (k * 256 + get_or s (a + 1) 0) p (omega arith) (o (a + 2)) two)
-
   pub keyed-three : a + 3 ≤ length s → Keyed (take 3 (drop a s)) three
-  keyed-three p = part_end s a 3 3 three (omega arith) (part-three 3 p (omega arith))
+  unfolding key_of key_from
+  keyed-three p =
+      let y = ap (λ (i : ℕ). get_or s i 0) {x = suc a} {y = a + 1} (omega arith) in
+      let z = ap (λ (i : ℕ). get_or s i 0) {x = suc (suc a)} {y = a + 2} (omega arith) in
+      rw (drop-cons s a 0 (omega arith), drop-cons s (suc a) 0 (omega arith), drop-cons s (suc (suc a)) 0 (omega arith))
+      (record { octets = (o a, (o (suc a), (o (suc (suc a)), tt))); key = omega (arith, y, z) })
 
   pub keyed-four : a + 4 ≤ length s → Keyed (take 4 (drop a s)) (4294967296 + get_or s a 0 * 16777216 + get_or s (a + 1) 0 * 65536 + get_or s (a + 2) 0 * 256 + get_or s (a + 3) 0)
+  unfolding key_of key_from
   keyed-four p =
-      subst (Keyed (take 4 (drop a s))) {x = three * 256 + get_or s (a + 3) 0} {y = 4294967296 + get_or s a 0 * 16777216 + get_or s (a + 1) 0 * 65536 + get_or s (a + 2) 0 * 256 + get_or s (a + 3) 0} (omega arith)
-      (part_end s a 4 4 (three * 256 + get_or s (a + 3) 0) (omega arith) (part-next s a 4 3 three p (omega arith) (o (a + 3)) (part-three 4 p (omega arith))))
+      let y = ap (λ (i : ℕ). get_or s i 0) {x = suc a} {y = a + 1} (omega arith) in
+      let z = ap (λ (i : ℕ). get_or s i 0) {x = suc (suc a)} {y = a + 2} (omega arith) in
+      let u = ap (λ (i : ℕ). get_or s i 0) {x = suc (suc (suc a))} {y = a + 3} (omega arith) in
+      rw (drop-cons s a 0 (omega arith), drop-cons s (suc a) 0 (omega arith), drop-cons s (suc (suc a)) 0 (omega arith), drop-cons s (suc (suc (suc a))) 0 (omega arith))
+      (record { octets = (o a, (o (suc a), (o (suc (suc a)), (o (suc (suc (suc a))), tt)))); key = omega (arith, y, z, u) })
 
 -- the numbers stay small: before i octets are read, below this
 unfoldable pub top : ℕ → ℕ

@@ -1,15 +1,20 @@
 -- The word at an offset is one: what `word_at` answers of a string that stands there, and that two answers are equal.
-use Prim.Native.Nat.{ℕ, ◌+◌, ◌<◌, ◌≤◌}
+use Prim.Native.Nat.{ℕ, ◌+◌, ◌-◌, ◌<◌, ◌≤◌}
 use mathlib.Core.Path.{◌≡◌, sym, ◌∙◌, ap}
 use mathlib.Core.List.{List}
 use native.Mathlib.Omega.{arith}
 use lib.ListN.{length, get_or, take, drop, length-take, length-drop}
 use Rattle.sexp.specs.Sexp.{str, Stands}
+use Rattle.sexp.specs.Strings.{Plain}
 use Rattle.sexp.proofs.StandLaws.{string-once}
 use Rattle.sexp.proofs.ShortLaws.{short-stands}
 use Rattle.packet.specs.declared.Word.{Word}
 use Rattle.packet.specs.Table.{word_of}
 use Rattle.reader.specs.WordAt.{WordAt, of, no}
+
+-- the octets of a plain string, as the code has them
+pub octets-part : {s : List ℕ} {at b n : ℕ} (p : Plain s at b n) → p.octets ≡ take (b + n - b) (drop b s)
+octets-part {s} {b = b} {n = n} p = p.lies ∙ ap (λ (k : ℕ). take k (drop b s)) {x = n} {y = b + n - b} (omega arith)
 
 pub word-is : {s : List ℕ} {at : ℕ} {r : Word} {w : List ℕ} → WordAt s at r → Stands s at (str w) → r ≡ word_of w
 word-is (of g e) h = e ∙ ap word_of (string-once g h)

@@ -1,23 +1,21 @@
 -- What the code says of an expression, or of the members of a list, that stands in bytes: where it ends, or the opening of its first barred term (Barred says which).
 -- Asked of expressions that are built from the table of words; `Tabled` is as much of that as the question needs.
-use Rattle.std.specs.Prelude.{ℕ, ◌+◌, ◌≤◌, ◌≡◌, Bool, true, false, List, length}
+use Rattle.std.specs.Prelude.{ℕ, ◌+◌, ◌≤◌, ◌≡◌, Bool, true, false, List, length, Result, Ok, Err}
 use Rattle.basics.specs.Choice.{maybe}
 use Rattle.sexp.specs.Sexp.{Sexp, Sexps, str, spell, spells, Stands}
 use Rattle.sexp.specs.Words.{is_number}
 use Rattle.reader.specs.declared.bars.Sort as code
 use Rattle.reader.specs.declared.bars.Sort.TheVariants as C
-use Rattle.reader.specs.declared.bars.Bars.{Bars}
-use Rattle.reader.specs.declared.bars.Bars.TheVariants as B
 use Rattle.packet.specs.Table.{word_of}
 use Rattle.packet.specs.Barred.{Holds, Sort, sort_of, barred, barreds}
 
 -- of an expression with n quantifiers around it
-unfoldable pub bars_of : Holds → ℕ → ℕ → Sexp → Bars
-bars_of holds n at e = maybe (barred holds n at e) (B.Clear (at + length (spell e))) B.At
+unfoldable pub bars_of : Holds → ℕ → ℕ → Sexp → Result ℕ ℕ
+bars_of holds n at e = maybe (barred holds n at e) (Ok (at + length (spell e))) Err
 
 -- of members with the closing parenthesis
-unfoldable pub bars_in : Holds → ℕ → ℕ → Sexps → Bars
-bars_in holds n at xs = maybe (barreds holds n at xs) (B.Clear (at + length (spells xs) + 1)) B.At
+unfoldable pub bars_in : Holds → ℕ → ℕ → Sexps → Result ℕ ℕ
+bars_in holds n at xs = maybe (barreds holds n at xs) (Ok (at + length (spells xs) + 1)) Err
 
 -- a list of this sort holds a number and no more
 abbrev pub holds_number : Sort → Bool

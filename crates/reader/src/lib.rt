@@ -7,5 +7,5 @@ mod files;
 mod shape;
 mod words;
 
-pub use files::{Judged, Read, judge_file, read_books, read_packet};
+pub use files::{Counts, Fault, Refusal, judge_file, read_books, read_file, read_packet};
 pub use words::word_at;

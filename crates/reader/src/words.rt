@@ -9,17 +9,14 @@ use packet::Word;
 // The longest word has so many octets.
 const LONGEST: usize = 5;
 
-// The number of so many octets from an offset on: a 1, and then the octets, each two digits in hexadecimal.
-fn key(s: &[u8], from: usize, count: usize) -> u64
-    requires { (from + count ≤ length s.now) × (count ≤ 5) }
-    ensures { Keyed (take count (drop from s.now)) result }
+// The number of some octets: a 1, and then the octets, each two digits in hexadecimal.
+fn key(w: &[u8]) -> u64
+    requires { length w.now ≤ 5 }
+    ensures { Keyed w.now result }
 {
     let mut k: u64 = 1;
-    let mut i = 0;
-    while i < count {
-        let b = s[from + i];
-        k = k * 256 + b as u64;
-        i += 1;
+    for b in w {
+        k = k * 256 + *b as u64;
     }
     k
 }
@@ -48,69 +45,35 @@ fn word_by(k: u64) -> Word
     }
 }
 
-// The word of so many octets from an offset on.
-pub(crate) fn word_of(s: &[u8], from: usize, count: usize) -> Word
-    requires { from + count ≤ length s.now }
-    ensures { result ≡ word_of (take count (drop from s.now)) }
+// The word of some octets.
+pub(crate) fn word_of(w: &[u8]) -> Word
+    ensures { result ≡ word_of w.now }
 {
-    if LONGEST < count {
+    if LONGEST < w.len() {
         return Word::Nothing;
     }
-    let k = key(s, from, count);
-    word_by(k)
-}
-
-// The number of the three octets from an offset on.
-fn key_three(s: &[u8], from: usize) -> u64
-    requires { from + 3 ≤ length s.now }
-    ensures { Keyed (take 3 (drop from s.now)) result }
-{
-    let a = s[from] as u64;
-    let b = s[from + 1] as u64;
-    let c = s[from + 2] as u64;
-    16777216 + a * 65536 + b * 256 + c
-}
-
-// The number of the four octets from an offset on.
-fn key_four(s: &[u8], from: usize) -> u64
-    requires { from + 4 ≤ length s.now }
-    ensures { Keyed (take 4 (drop from s.now)) result }
-{
-    let a = s[from] as u64;
-    let b = s[from + 1] as u64;
-    let c = s[from + 2] as u64;
-    let d = s[from + 3] as u64;
-    4294967296 + a * 16777216 + b * 65536 + c * 256 + d
+    word_by(key(w))
 }
 
 // A yes says that six bytes or more stand at an offset, and that the second is a colon.
 fn is_colon_next(s: &[u8], at: usize) -> bool
     ensures { result ≡ true → (at + 6 ≤ length s.now) × (get_or s.now (at + 1) 0 ≡ 58) }
 {
-    if s.len() <= at {
-        return false;
-    }
-    if s.len() - at < 6 {
-        return false;
-    }
-    s[at + 1] == 58
+    at < s.len() && 6 <= s.len() - at && s[at + 1] == b':'
 }
 
 // The word of the plain string that stands at an offset; nothing where none does, or where it is no word. Nearly every word has three octets or four, and is then read at once.
 pub fn word_at(s: &[u8], at: usize) -> Word
     ensures { WordAt s.now at result }
 {
-    if !is_colon_next(s, at) {
-        return word_long(s, at);
-    }
-    let n = s[at];
-    if n == 51 {
-        let k = key_three(s, at + 2);
-        return word_by(k);
-    }
-    if n == 52 {
-        let k = key_four(s, at + 2);
-        return word_by(k);
+    if is_colon_next(s, at) {
+        let n = s[at];
+        if n == b'3' {
+            return word_by(key(&s[at + 2..at + 5]));
+        }
+        if n == b'4' {
+            return word_by(key(&s[at + 2..at + 6]));
+        }
     }
     word_long(s, at)
 }
@@ -120,7 +83,7 @@ fn word_long(s: &[u8], at: usize) -> Word
     ensures { WordAt s.now at result }
 {
     match sexp::plain(s, at) {
-        sexp::Octets::Nothing => Word::Nothing,
-        sexp::Octets::Span(from, count) => word_of(s, from, count),
+        None => Word::Nothing,
+        Some((from, count)) => word_of(&s[from..from + count]),
     }
 }

@@ -1,7 +1,6 @@
 -- 8,192 words are always enough, for a checker (a strip nests at most 64 levels) and for a search (a height of at most 32): from specs/Layout alone.
 -- A node pushes at most 64 words: a frame holds at most 63 (proofs/NestLaws), `use` copies one and adds to it, `some` and `all` add one word.
-use Prim.Native.Nat.{ℕ, ◌+◌, ◌-◌, ◌*◌, ◌≤◌, ◌<◌}
-use mathlib.Core.Path.{◌≡◌}
+use Prim.Native.Nat.{ℕ, ◌+◌, ◌-◌, ◌≤◌, ◌<◌}
 use native.Mathlib.Omega.{arith}
 use Rattle.room.specs.Layout.{words, levels, supposed_word, supposed_at_most, stack, rules_at_most, candidates_at_most, rule_word, candidates_word, candidate_word, highest_word, Enough}
 

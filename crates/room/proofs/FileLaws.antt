@@ -1,9 +1,9 @@
 -- Laws of files, parts of them and supposed clauses: what a part holds, and that what is supposed stays so.
-use Prim.Native.Nat.{ℕ, suc, ◌+◌, ◌-◌, ◌*◌, ◌≤◌, ◌<◌, min}
-use mathlib.Core.Path.{◌≡◌, refl, sym, ◌∙◌, ap, ap₂}
+use Prim.Native.Nat.{ℕ, suc, ◌+◌, ◌-◌, ◌≤◌, ◌<◌}
+use mathlib.Core.Path.{◌≡◌, refl, ◌∙◌, ap₂}
 use mathlib.Core.List.{List, [], ◌∷◌}
 use native.Mathlib.Omega.{arith}
-use lib.ListN.{length, take, drop, set, get_or, length-drop}
+use lib.ListN.{length, take, drop, set, length-drop}
 use lib.Seq.{take_all, sets}
 use borrow.Author.Tests.{eq-eqb, ne_eqb, lt-ltb, le-ltb}
 use Rattle.room.specs.declared.Source.{Source}

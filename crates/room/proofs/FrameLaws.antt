@@ -1,20 +1,19 @@
 -- Laws of bindings in the room: a word and its binding tell each other; what variable i of a frame stands for; what a push and a copy leave in the frames.
 -- From specs/Frame; every law holds of any room and any frame.
-use Prim.Native.Nat.{ℕ, zero, suc, ◌+◌, ◌-◌, ◌*◌, ◌/◌, ◌%◌, ◌≤◌, ◌<◌, min}
-use mathlib.Core.Path.{◌≡◌, refl, sym, ◌∙◌, ap, ap₂, subst}
+use Prim.Native.Nat.{ℕ, zero, suc, ◌+◌, ◌-◌, ◌*◌, ◌/◌, ◌%◌, ◌≤◌, ◌<◌}
+use mathlib.Core.Path.{◌≡◌, refl, sym, ◌∙◌, ap, ap₂}
 use mathlib.Core.Bool.{Bool, true, false, ◌&&◌}
 use mathlib.Core.List.{List, [], ◌∷◌, ◌++◌, append_assoc}
-use native.Mathlib.Numerals.{add-one}
 use native.Mathlib.Omega.{arith}
-use lib.Dec.{eqb, leb, ltb}
-use lib.ListN.{length, get_or, take, drop, set, length-set, length-drop, get_or-append}
-use lib.Seq.{paste, paste-zero, paste-suc, take-paste, take-append_seam, get_or-take, get_or-drop, get_or-set_same, get_or-set_other, take-set-le, take-take, take_at, drop_at, length-take-le, length-paste, get_or-append-add}
-use borrow.Author.Tests.{leb-true, leb-false, eqb-true, eqb-false, eq-eqb, ne_eqb, le-leb, lt-leb, ltb-true, ltb-false}
+use lib.Dec.{eqb, leb}
+use lib.ListN.{length, get_or, take, drop, set, length-drop, get_or-append}
+use lib.Seq.{paste, get_or-take, get_or-drop, get_or-set_same, take-set-le, take-take, take_at, drop_at, length-take-le, length-paste}
+use borrow.Author.Tests.{leb-true, leb-false, eqb-true, eqb-false, eq-eqb, ne_eqb, le-leb, lt-leb}
 use Rattle.basics.specs.Choice.{choose, both_true}
 use Rattle.harrop.specs.declared.Binding.{Binding}
 use Rattle.harrop.specs.declared.Binding.TheVariants.{Candidate, Parameter}
 use Rattle.harrop.specs.Formula.{Term}
-use Rattle.harrop.specs.Bindings.{Bindings, meant, value_of, nothing}
+use Rattle.harrop.specs.Bindings.{Bindings, meant, value_of}
 use Rattle.room.specs.Frame.{binding_word, binding_of, held, bindings_in, bound_to, copied}
 
 -- a binding and its word tell each other
@@ -118,20 +117,6 @@ module _ (room : List ℕ) (base n top : ℕ) (below : base + n ≤ top) (inside
 pub not-copied : (room : List ℕ) (base n top : ℕ) → leb (base + n) top && leb (top + n) (length room) ≡ false → copied room base n top ≡ room
 unfolding copied
 not-copied room base n top e = rw e refl
-
--- a turn of the loop that copies
-pub copy-next : (room now : List ℕ) (base n top k : ℕ) → base + n ≤ top → top + n ≤ length room → k < n → now ≡ paste room top (drop base room) k → set now (top + k) (get_or now (base + k) 0) ≡ paste room top (drop base room) (k + 1)
-copy-next room now base n top k below inside h e =
-    ap (λ (x : List ℕ). set x (top + k) (get_or x (base + k) 0)) e
-    ∙ ap (λ (w : ℕ). set (paste room top (drop base room) k) (top + k) w) (word_below ∙ sym (get_or-drop base room k 0))
-    ∙ paste-suc room top (drop base room) k 0 (omega arith) (rw length-drop (omega arith))
-    ∙ rw add-one refl
-  where
-    word_below : get_or (paste room top (drop base room) k) (base + k) 0 ≡ get_or room (base + k) 0
-    word_below =
-        ap (λ (x : List ℕ). get_or x (base + k) 0) (append_assoc (take top room) (take k (drop base room)) (drop (top + k) room))
-        ∙ get_or-append (take top room) (take k (drop base room) ++ drop (top + k) room) 0 (base + k) (rw (length-take-le top room (omega arith)) (omega arith))
-        ∙ get_or-take top room (base + k) 0 (omega arith)
 
 -- whether a frame may be copied, by the code's tests
 pub not-below : (base n top l : ℕ) → top < base + n → false ≡ (leb (base + n) top && leb (top + n) l)

@@ -1,30 +1,29 @@
 -- From a place to the places of its parts: a variable bound on top of the stack, and a clause supposed (document 01, "When a strip fits": `some`, `all`, `imp`).
 -- What the first place relies on is kept, and the second is what it should be.
-use Prim.Native.Nat.{ℕ, zero, suc, ◌+◌, ◌*◌, ◌≤◌, ◌<◌, min}
+use Prim.Native.Nat.{ℕ, zero, suc, ◌+◌, ◌≤◌, ◌<◌}
 use native.Mathlib.Omega.{arith}
-use native.Mathlib.Numerals.{add-one}
 use mathlib.Core.Path.{◌≡◌, refl, sym, ◌∙◌, ap, subst}
 use mathlib.Core.List.{List, [], ◌∷◌, ◌++◌}
-use mathlib.Core.Option.{Option, some, some-injective}
+use mathlib.Core.Option.{some, some-injective}
 use mathlib.Core.Bool.{Bool, true, false}
 use lib.Dec.{ltb}
 use borrow.Author.Tests.{ltb-true, ltb-false}
 use lib.ListN.{length, get_or, get_elem?, set, length-append, length-set}
-use lib.Seq.{get_or-set_other, get_or-set_same, sets, length-sets}
+use lib.Seq.{get_or-set_other, get_or-set_same, sets}
 use Rattle.harrop.specs.declared.Binding.{Binding}
 use Rattle.harrop.specs.Formula.{Term, Goal, Clause}
 use Rattle.harrop.specs.Bindings.{Bindings}
 use Rattle.harrop.specs.Place.{AtHand, Hand, Plain}
 use Rattle.harrop.proofs.ListLaws.{member_below, member-kept, member-joined}
 use Rattle.sexp.specs.Sexp.{Sexp, Stands, nesting}
-use Rattle.sexp.proofs.StandLaws.{stands-inside, stands-before}
+use Rattle.sexp.proofs.StandLaws.{stands-before}
 use Rattle.packet.specs.Written.{goal_sexp, clause_sexp}
 use Rattle.packet.specs.Barred.{goal_ok, clause_ok}
-use Rattle.packet.specs.File.{most_bytes}
-use Rattle.room.specs.Layout.{words, levels, supposed_word, supposed_at_most, stack}
+use Rattle.room.specs.Layout.{words, supposed_word, supposed_at_most}
 use Rattle.room.specs.Frame.{binding_word, held, bindings_in}
-use Rattle.room.specs.Spot.{file_of, source_number, source_of, spot_words, supposing, supposed_in}
-use Rattle.room.specs.Where.{Files, Live, Kept, Framed, HandIn, Booked, Means, plus, further, within, bound, supposes}
+use Rattle.room.specs.Spot.{source_of, spot_words, supposing, supposed_in}
+use Rattle.room.specs.Files.{Files}
+use Rattle.room.specs.Where.{Live, Kept, Framed, HandIn, Means, plus, further, bound, supposes}
 use Rattle.room.specs.declared.Spot.{Spot}
 use Rattle.room.specs.declared.Where.{Where}
 use Rattle.room.proofs.FrameLaws.{held_same, frame_pushed}

@@ -1,20 +1,19 @@
 -- How many bindings a formula can have in its frame, and how deep a term nests after its variables are replaced (document 01, "Sizes": list nesting at most 64).
 -- Every quantifier is a list of its own, so the number of bindings and the nesting of what they are bound in are together at most 64; 63 for a rule, which stands in a list.
-use Prim.Native.Nat.{ℕ, zero, suc, ◌+◌, ◌≤◌, ◌<◌, max}
-use mathlib.Core.Path.{◌≡◌, refl, sym, ◌∙◌, ap}
-use mathlib.Core.Bool.{Bool, true, false}
+use Prim.Native.Nat.{ℕ, zero, suc, ◌+◌, ◌≤◌, ◌<◌}
+use mathlib.Core.Path.{◌≡◌, refl, ap}
 use mathlib.Core.List.{List, [], ◌∷◌}
 use mathlib.Core.Option.{Option, none, some, some-injective}
 use native.Mathlib.Omega.{arith}
-use lib.ListN.{length, get_elem?}
+use lib.ListN.{get_elem?}
 use Rattle.basics.specs.Choice.{nope}
 use Rattle.harrop.specs.declared.Binding.{Binding}
 use Rattle.harrop.specs.declared.Binding.TheVariants.{Candidate, Parameter}
 use Rattle.harrop.specs.Formula.{Term, Terms, Atom, Goal, Clause}
-use Rattle.harrop.specs.Bindings.{Bindings, meant, value_of, replaced, replaceds, replaced_atom}
+use Rattle.harrop.specs.Bindings.{Bindings, meant, value_of, replaced, replaceds}
 use Rattle.harrop.specs.Place.{Plain}
 use Rattle.packet.specs.Written.{term_sexp, term_sexps, atom_sexp, goal_sexp, clause_sexp, rules_sexp, terms_sexp, each}
-use Rattle.sexp.specs.Sexp.{Sexp, Sexps, nesting, nestings}
+use Rattle.sexp.specs.Sexp.{Sexp, nesting, nestings}
 use Rattle.room.specs.Layout.{levels}
 
 -- every formula and every term is a list

@@ -22,7 +22,8 @@ use Rattle.packet.specs.Sound.{SoundBooks}
 use Rattle.room.specs.Layout.{words, stack, candidates_word, rules_word, rule_word}
 use Rattle.room.specs.Frame.{bindings_in}
 use Rattle.room.specs.Table.{RulesIn, RulesFilled, CandidatesFilled}
-use Rattle.room.specs.Where.{Booked, HandIn, Means, files_of}
+use Rattle.room.specs.Where.{Booked, HandIn, Means}
+use Rattle.room.specs.Files.{files_of}
 use Rattle.room.specs.Start.{start, Tabled, room_after}
 use Rattle.room.proofs.NestLaws.{rule-nests}
 

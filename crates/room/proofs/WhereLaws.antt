@@ -1,27 +1,26 @@
 -- A place is what it was as long as the words it relies on are: kept over pushes, parts and what is done above it.
-use Prim.Native.Nat.{ℕ, suc, ◌+◌, ◌≤◌, ◌<◌, min}
+use Prim.Native.Nat.{ℕ, ◌+◌, ◌≤◌, ◌<◌}
 use native.Mathlib.Omega.{arith}
-use mathlib.Core.Path.{◌≡◌, refl, sym, ◌∙◌, ap, subst}
+use mathlib.Core.Path.{◌≡◌, sym, ◌∙◌, ap, subst}
 use mathlib.Core.Bool.{true}
-use mathlib.Core.List.{List, [], ◌∷◌}
-use mathlib.Core.Option.{some}
+use mathlib.Core.List.{List}
 use lib.Dec.{ltb}
-use lib.ListN.{length, get_or, get_elem?, set}
+use lib.ListN.{length, set}
 use lib.Seq.{get_or-set_other}
 use Rattle.basics.specs.Choice.{choose}
 use Rattle.harrop.specs.Formula.{Term, Goal, Clause}
 use Rattle.harrop.specs.Bindings.{Bindings}
-use Rattle.harrop.specs.Place.{AtHand, Hand, Plain}
+use Rattle.harrop.specs.Place.{Hand, Plain}
 use Rattle.harrop.proofs.ListLaws.{member_below}
 use Rattle.sexp.specs.Sexp.{Sexp, Stands, nesting}
 use Rattle.sexp.proofs.StandLaws.{stands-inside}
 use Rattle.packet.specs.Written.{goal_sexp, clause_sexp, term_sexp}
 use Rattle.packet.specs.Barred.{goal_ok}
 use Rattle.packet.specs.File.{most_bytes}
-use Rattle.room.specs.Layout.{levels, rules_word, rule_word, candidates_word, candidate_word, highest_word, supposed_word, supposed_at_most, stack}
-use Rattle.room.specs.Spot.{file_of, source_of, supposed_in, nowhere}
-use Rattle.room.specs.Table.{RulesIn, CandidatesIn}
-use Rattle.room.specs.Where.{Files, Live, Kept, Framed, HandIn, Booked, Means, plus, within}
+use Rattle.room.specs.Layout.{rules_word, rule_word, candidates_word, candidate_word, highest_word, supposed_word, supposed_at_most, stack}
+use Rattle.room.specs.Spot.{source_of, supposed_in, nowhere}
+use Rattle.room.specs.Files.{Files, file_of}
+use Rattle.room.specs.Where.{Live, Kept, Framed, HandIn, Booked, Means, plus, within}
 use Rattle.room.specs.declared.Source.{Source}
 use Rattle.room.specs.declared.Source.TheVariants as S
 use Rattle.room.specs.declared.Spot.{Spot}
@@ -115,7 +114,7 @@ means-kept {w = w} k m =
     }
 
 -- no file is longer than its size
-pub file-small : {f : Files} {room : List ℕ} {ds : List (Clause Plain)} {us : List Term} → Booked f room ds us → (x : Source) → length (file_of f.rules f.goal f.terms x) ≤ most_bytes
+pub file-small : {f : Files} {room : List ℕ} {ds : List (Clause Plain)} {us : List Term} → Booked f room ds us → (x : Source) → length (file_of f x) ≤ most_bytes
 file-small b S.Rules = b.rules-small
 file-small b S.Goal = b.goal-small
 file-small b S.Terms = b.terms-small
@@ -127,7 +126,7 @@ plus-inside s a n l h = let i = stands-inside h in omega arith
 module _ {f : Files} {room : List ℕ} {ds : List (Clause Plain)} {us : List Term} {w : Where} {o : List Plain} {c : Hand Plain} {bs : Bindings} {g : Goal Plain} (m : Means f room ds us w o c bs g) where
   -- the goal's file
   abbrev pub file : List ℕ
-  file = file_of f.rules f.goal f.terms w.goal.source
+  file = file_of f w.goal.source
 
   -- the place of a part of the goal
   pub part-means : (n : ℕ) (g' : Goal Plain) → Stands file (w.goal.at + n) (goal_sexp g') → nesting (goal_sexp g') ≤ nesting (goal_sexp g) → goal_ok (length bs) g' ≡ true → Means f room ds us (within w n) o c bs g'

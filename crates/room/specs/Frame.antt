@@ -1,6 +1,6 @@
 -- Bindings in the work room: a word for each, in frames (document 01, "When a strip fits": what a variable stands for is either a candidate, by number, or a parameter, by number).
 -- A frame holds the bindings of one formula, outermost first.
-use Rattle.std.specs.Prelude.{ℕ, zero, suc, ◌+◌, ◌*◌, ◌/◌, ◌%◌, min, Bool, true, false, ◌&&◌, List, [], ◌∷◌, eqb, leb, length, get_or, drop}
+use Rattle.std.specs.Prelude.{ℕ, zero, suc, ◌+◌, ◌*◌, ◌/◌, ◌%◌, min, ◌&&◌, List, [], ◌∷◌, eqb, leb, length, get_or, drop}
 use Rattle.std.proofs.Math.Seq.{paste}
 use Rattle.basics.specs.Choice.{choose}
 use Rattle.harrop.specs.declared.Binding.{Binding}

@@ -1,5 +1,6 @@
 pub mod Layout
 pub mod Frame
+pub mod Files
 pub mod Spot
 pub mod Table
 pub mod Where

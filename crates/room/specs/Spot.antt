@@ -1,6 +1,6 @@
 -- Where a formula or a term stands: in which file, at which offset, and in which frame of the room its variables are bound.
 -- A supposed clause is kept in the room as the words of its spot.
-use Rattle.std.specs.Prelude.{ℕ, ◌+◌, ◌≤◌, List, [], ◌∷◌, eqb, ltb, get_or, drop}
+use Rattle.std.specs.Prelude.{ℕ, ◌+◌, ◌≤◌, List, [], ◌∷◌, eqb, ltb, get_or}
 use Rattle.std.proofs.lemmas.List.Edits.{sets}
 use Rattle.basics.specs.Choice.{choose}
 use Rattle.harrop.specs.Bindings.{Bindings}
@@ -8,14 +8,9 @@ use Rattle.sexp.specs.Sexp.{Sexp, Stands, nesting}
 use Rattle.room.specs.declared.Source.{Source}
 use Rattle.room.specs.declared.Source.TheVariants.{Rules, Goal, Terms}
 use Rattle.room.specs.declared.Spot.{Spot}
+use Rattle.room.specs.Files.{Files, file_of}
 use Rattle.room.specs.Layout.{levels, supposed_word, supposed_at_most}
 use Rattle.room.specs.Frame.{held, bindings_in}
-
--- the file that is meant
-abbrev pub file_of : List ℕ → List ℕ → List ℕ → Source → List ℕ
-file_of rules goal terms Rules = rules
-file_of rules goal terms Goal = goal
-file_of rules goal terms Terms = terms
 
 -- a source as document 01 numbers its files, and back
 abbrev pub source_number : Source → ℕ
@@ -31,9 +26,13 @@ abbrev pub bindings_at : List ℕ → Spot → Bindings
 bindings_at room x = bindings_in room x.base x.count
 
 -- at a spot stands an expression, no deeper than a file may nest
-pub record Here (rules goal terms : List ℕ) (x : Spot) (e : Sexp) : Type 0 where
-  pub stands : Stands (file_of rules goal terms x.source) x.at e
+pub record Here (f : Files) (x : Spot) (e : Sexp) : Type 0 where
+  pub stands : Stands (file_of f x.source) x.at e
   pub shallow : nesting e ≤ levels
+
+-- a spot of the same formula at another offset
+abbrev pub moved_to : Spot → ℕ → Spot
+moved_to x at = record { source = x.source; at = at; base = x.base; count = x.count }
 
 -- the words of a spot
 abbrev pub spot_words : Spot → List ℕ

@@ -1,6 +1,6 @@
 -- How the room stands when a walk starts and how it is left (document 01, "When a strip fits": a place starts with the goal file, the rules in file order numbered from 0, and p = 0; "What comes back": work room is zero on return in all cases but 11).
 -- Checker and search both start so and end so.
-use Rattle.std.specs.Prelude.{ℕ, ◌≤◌, List, ltb, length, replicate}
+use Rattle.std.specs.Prelude.{ℕ, List, ltb, length, replicate}
 use Rattle.basics.specs.Choice.{choose}
 use Rattle.basics.specs.Each.{Each}
 use Rattle.harrop.specs.Formula.{Term, Clause}

@@ -1,5 +1,5 @@
 -- When the room's tables are right: of the rules of a rule file, and of the candidates of a terms file (document 01, "When a strip fits", "Sizes").
-use Rattle.std.specs.Prelude.{ℕ, zero, suc, ◌+◌, ◌<◌, ◌≤◌, ◌≡◌, true, List, length, get_or, take, drop}
+use Rattle.std.specs.Prelude.{ℕ, zero, suc, ◌+◌, ◌≤◌, ◌≡◌, true, List, length, get_or, take, drop}
 use Rattle.std.proofs.Math.Option.{Option, none, some}
 use Rattle.std.proofs.Math.ListN.{get_elem?}
 use Rattle.harrop.specs.Formula.{Term, Terms, Clause}

@@ -11,16 +11,11 @@ use Rattle.packet.specs.Written.{goal_sexp, clause_sexp}
 use Rattle.packet.specs.Barred.{goal_ok, clause_ok}
 use Rattle.packet.specs.File.{most_bytes}
 use Rattle.room.specs.Layout.{levels, supposed_word, stack}
-use Rattle.room.specs.Spot.{file_of, bindings_at, supposed_in}
+use Rattle.room.specs.Spot.{bindings_at, supposed_in}
+use Rattle.room.specs.Files.{Files, file_of}
 use Rattle.room.specs.Table.{RulesIn, CandidatesIn}
 use Rattle.room.specs.declared.Spot.{Spot}
 use Rattle.room.specs.declared.Where.{Where}
-
--- the bytes of rules, goal and terms
-pub record Files : Type 0 where
-  pub rules : List ℕ
-  pub goal : List ℕ
-  pub terms : List ℕ
 
 -- the words that a place with so many supposed clauses and this top of the stack relies on
 pub data Live (supposed top i : ℕ) : Type 0 where
@@ -33,7 +28,7 @@ Kept supposed top room after = (i : ℕ) → Live supposed top i → get_or afte
 
 -- a formula at a spot: its bytes, and its variables in a frame below the top. Each quantifier passed is a level of its file, so frame and formula are 64 at most
 pub record Framed (f : Files) (room : List ℕ) (x : Spot) (top : ℕ) (e : Sexp) (bs : Bindings) : Type 0 where
-  pub stands : Stands (file_of f.rules f.goal f.terms x.source) x.at e
+  pub stands : Stands (file_of f x.source) x.at e
   pub above : stack ≤ x.base
   pub below : x.base + x.count ≤ top
   pub holds : bindings_at room x ≡ bs
@@ -64,9 +59,6 @@ pub record Means (f : Files) (room : List ℕ) (ds : List (Clause Plain)) (us : 
   pub tight : w.goal.base + w.goal.count ≡ w.top
   pub openly : length o ≡ w.parameters
   pub hand : HandIn f room ds w.supposed w.top c
-
-abbrev pub files_of : List ℕ → List ℕ → List ℕ → Files
-files_of rs gs ts = record { rules = rs; goal = gs; terms = ts }
 
 -- a sum that no packet makes too large for a machine word
 abbrev pub plus : ℕ → ℕ → ℕ

@@ -1,4 +1,5 @@
 // Bindings in frames on the stack (document 01, "When a strip fits"): read, pushed and copied. Nothing below the top is ever written.
+// Kept: the room comes with the word that a frame or a table begins or ends at, since the room is one memory that the caller lends, and which parts it has is the definition's (specs/Layout of crate `room`).
 ghost use Rattle.std.specs.Prelude.{◌≡◌, ◌+◌, ◌≤◌, ◌&&◌, leb, get_or, set, length};
 ghost use Rattle.room.specs.Frame.{binding_word, binding_of, held, bindings_in, bound_to, copied};
 
@@ -17,6 +18,7 @@ fn binding_of(w: u32) -> Binding
 }
 
 // The word for a binding.
+// Kept: an `impl From<Binding> for u32` can only stand in the crate of `Binding`, which knows of no room.
 fn word_of(b: Binding) -> u32
     ensures { result ≡ held (binding_word b) }
 {
@@ -64,13 +66,7 @@ fn copies(words: usize, base: usize, count: usize, top: usize) -> bool
 pub fn copy(room: &mut [u32], base: usize, count: usize, top: usize)
     ensures { room.new ≡ copied room.old base count top }
 {
-    if !copies(room.len(), base, count, top) {
-        return;
-    }
-    let mut k = 0;
-    while k < count {
-        let w = room[base + k];
-        room[top + k] = w;
-        k += 1;
+    if copies(room.len(), base, count, top) {
+        room.copy_within(base..base + count, top);
     }
 }

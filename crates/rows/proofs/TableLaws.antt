@@ -10,11 +10,11 @@ use types.Run.{OneOf}
 use denote.Enum.Declared.{tag_of}
 use borrow.Author.Tests.{ne_eqb, eqb-false, not-true}
 use Rattle.basics.specs.Choice.{both_true}
+use Rattle.std.specs.Prelude.{None}
 use Rattle.packet.specs.declared.Word.{Word}
 use Rattle.packet.specs.contracts.Word.{the_type}
 use Rattle.packet.specs.declared.Word.TheVariants as W
 use Rattle.packet.specs.declared.Kind.{Kind}
-use Rattle.rows.specs.declared.table.Row.TheVariants as R
 use Rattle.rows.specs.Rows.{row_of}
 use Rattle.packet.specs.Table.{Row, rank, rows, look, due_after}
 
@@ -74,6 +74,6 @@ abbrev pub others : Kind → List ℕ
 others k = without (rows k) (0 ∷ 1 ∷ 2 ∷ 3 ∷ 4 ∷ 5 ∷ 6 ∷ 7 ∷ 8 ∷ 9 ∷ 10 ∷ 11 ∷ 12 ∷ 13 ∷ 14 ∷ 15 ∷ [])
 
 -- so the table has nothing for any of them
-pub no_row : (k : Kind) (w : Word) → OneOf (others k) (tag_of the_type w) → free (rows k) (others k) ≡ true → R.Nothing ≡ row_of (due_after k w)
+pub no_row : (k : Kind) (w : Word) → OneOf (others k) (tag_of the_type w) → free (rows k) (others k) ≡ true → None ≡ row_of (due_after k w)
 unfolding due_after
 no_row k w h f = ap row_of (sym (missed w (others k) (rows k) (subst (λ (x : ℕ). OneOf (others k) x) (tag-rank w) h) f))

@@ -6,110 +6,94 @@ ghost use Rattle.rows.specs.Rows.{row_of, follows_of};
 
 use packet::{Due, Kind, Word};
 
-// What is due after a word, if the table has it there.
-#[derive(Clone, Copy)]
-pub enum Row {
-    Then(Due),
-    Nothing,
-}
-
-// The kind of the next member and what is due after it, if one may follow.
-#[derive(Clone, Copy)]
-pub enum Follows {
-    Member(Kind, Due),
-    Nothing,
-}
-
-fn term_row(w: Word) -> Row
+fn term_row(w: Word) -> Option<Due>
     ensures { result ≡ row_of (due_after K.Term w) }
 {
     match w {
-        Word::V => Row::Then(Due::One(Kind::Number)),
-        Word::F => Row::Then(Due::OneEach(Kind::Name, Kind::Term)),
-        Word::E => Row::Then(Due::One(Kind::Number)),
-        _ => Row::Nothing,
+        Word::V => Some(Due::One(Kind::Number)),
+        Word::F => Some(Due::OneEach(Kind::Name, Kind::Term)),
+        Word::E => Some(Due::One(Kind::Number)),
+        _ => None,
     }
 }
 
-fn atom_row(w: Word) -> Row
+fn atom_row(w: Word) -> Option<Due>
     ensures { result ≡ row_of (due_after K.Atom w) }
 {
     match w {
-        Word::Atom => Row::Then(Due::OneEach(Kind::Name, Kind::Term)),
-        _ => Row::Nothing,
+        Word::Atom => Some(Due::OneEach(Kind::Name, Kind::Term)),
+        _ => None,
     }
 }
 
-fn goal_row(w: Word) -> Row
+fn goal_row(w: Word) -> Option<Due>
     ensures { result ≡ row_of (due_after K.Goal w) }
 {
     match w {
-        Word::Top => Row::Then(Due::End),
-        Word::Atom => Row::Then(Due::OneEach(Kind::Name, Kind::Term)),
-        Word::And => Row::Then(Due::Two(Kind::Goal, Kind::Goal)),
-        Word::Or => Row::Then(Due::Two(Kind::Goal, Kind::Goal)),
-        Word::Some => Row::Then(Due::One(Kind::Goal)),
-        Word::All => Row::Then(Due::One(Kind::Goal)),
-        Word::Imp => Row::Then(Due::Two(Kind::Clause, Kind::Goal)),
-        _ => Row::Nothing,
+        Word::Top => Some(Due::End),
+        Word::Atom => Some(Due::OneEach(Kind::Name, Kind::Term)),
+        Word::And => Some(Due::Two(Kind::Goal, Kind::Goal)),
+        Word::Or => Some(Due::Two(Kind::Goal, Kind::Goal)),
+        Word::Some => Some(Due::One(Kind::Goal)),
+        Word::All => Some(Due::One(Kind::Goal)),
+        Word::Imp => Some(Due::Two(Kind::Clause, Kind::Goal)),
+        _ => None,
     }
 }
 
-fn clause_row(w: Word) -> Row
+fn clause_row(w: Word) -> Option<Due>
     ensures { result ≡ row_of (due_after K.Clause w) }
 {
     match w {
-        Word::Atom => Row::Then(Due::OneEach(Kind::Name, Kind::Term)),
-        Word::Imp => Row::Then(Due::Two(Kind::Goal, Kind::Atom)),
-        Word::All => Row::Then(Due::One(Kind::Clause)),
-        Word::And => Row::Then(Due::Two(Kind::Clause, Kind::Clause)),
-        _ => Row::Nothing,
+        Word::Atom => Some(Due::OneEach(Kind::Name, Kind::Term)),
+        Word::Imp => Some(Due::Two(Kind::Goal, Kind::Atom)),
+        Word::All => Some(Due::One(Kind::Clause)),
+        Word::And => Some(Due::Two(Kind::Clause, Kind::Clause)),
+        _ => None,
     }
 }
 
-fn rules_row(w: Word) -> Row
+// Kept: each kind has its row of the table, as the definition has it (`due_after`, specs/Table of crate `packet`); a row with its word and kind as parameters is read with more trouble.
+fn rules_row(w: Word) -> Option<Due>
     ensures { result ≡ row_of (due_after K.Rules w) }
 {
     match w {
-        Word::Rules => Row::Then(Due::Each(Kind::Clause)),
-        _ => Row::Nothing,
+        Word::Rules => Some(Due::Each(Kind::Clause)),
+        _ => None,
     }
 }
 
-fn terms_row(w: Word) -> Row
+fn terms_row(w: Word) -> Option<Due>
     ensures { result ≡ row_of (due_after K.Terms w) }
 {
     match w {
-        Word::Terms => Row::Then(Due::Each(Kind::Term)),
-        _ => Row::Nothing,
+        Word::Terms => Some(Due::Each(Kind::Term)),
+        _ => None,
     }
 }
 
-fn strip_row(w: Word) -> Row
+fn strip_row(w: Word) -> Option<Due>
     ensures { result ≡ row_of (due_after K.Strip w) }
 {
     match w {
-        Word::Top => Row::Then(Due::End),
-        Word::And => Row::Then(Due::Two(Kind::Strip, Kind::Strip)),
-        Word::Left => Row::Then(Due::One(Kind::Strip)),
-        Word::Right => Row::Then(Due::One(Kind::Strip)),
-        Word::Some => Row::Then(Due::Two(Kind::Number, Kind::Strip)),
-        Word::All => Row::Then(Due::One(Kind::Strip)),
-        Word::Imp => Row::Then(Due::One(Kind::Strip)),
-        Word::Use => Row::Then(Due::TwoPerhaps(Kind::Number, Kind::Path, Kind::Strip)),
-        _ => Row::Nothing,
+        Word::Top => Some(Due::End),
+        Word::And => Some(Due::Two(Kind::Strip, Kind::Strip)),
+        Word::Left => Some(Due::One(Kind::Strip)),
+        Word::Right => Some(Due::One(Kind::Strip)),
+        Word::Some => Some(Due::Two(Kind::Number, Kind::Strip)),
+        Word::All => Some(Due::One(Kind::Strip)),
+        Word::Imp => Some(Due::One(Kind::Strip)),
+        Word::Use => Some(Due::TwoPerhaps(Kind::Number, Kind::Path, Kind::Strip)),
+        _ => None,
     }
 }
 
 // What is due after a word of a kind.
-pub fn due_after(k: Kind, w: Word) -> Row
+pub fn due_after(k: Kind, w: Word) -> Option<Due>
     ensures { result ≡ row_of (due_after k w) }
 {
     match k {
-        Kind::Name => Row::Nothing,
-        Kind::Number => Row::Nothing,
-        Kind::Step => Row::Nothing,
-        Kind::Path => Row::Nothing,
+        Kind::Name | Kind::Number | Kind::Step | Kind::Path => None,
         Kind::Term => term_row(w),
         Kind::Atom => atom_row(w),
         Kind::Goal => goal_row(w),
@@ -121,18 +105,18 @@ pub fn due_after(k: Kind, w: Word) -> Row
 }
 
 // The kind of the next member, and what is due after it.
-pub fn next_due(due: Due) -> Follows
+pub fn next_due(due: Due) -> Option<(Kind, Due)>
     ensures { result ≡ follows_of (next due) }
 {
     match due {
-        Due::End => Follows::Nothing,
-        Due::One(a) => Follows::Member(a, Due::End),
-        Due::Two(a, b) => Follows::Member(a, Due::One(b)),
-        Due::Each(a) => Follows::Member(a, Due::Each(a)),
-        Due::OneEach(a, b) => Follows::Member(a, Due::Each(b)),
-        Due::Perhaps(a) => Follows::Member(a, Due::End),
-        Due::OnePerhaps(a, b) => Follows::Member(a, Due::Perhaps(b)),
-        Due::TwoPerhaps(a, b, c) => Follows::Member(a, Due::OnePerhaps(b, c)),
+        Due::End => None,
+        Due::One(a) => Some((a, Due::End)),
+        Due::Two(a, b) => Some((a, Due::One(b))),
+        Due::Each(a) => Some((a, Due::Each(a))),
+        Due::OneEach(a, b) => Some((a, Due::Each(b))),
+        Due::Perhaps(a) => Some((a, Due::End)),
+        Due::OnePerhaps(a, b) => Some((a, Due::Perhaps(b))),
+        Due::TwoPerhaps(a, b, c) => Some((a, Due::OnePerhaps(b, c))),
     }
 }
 
@@ -140,14 +124,5 @@ pub fn next_due(due: Due) -> Follows
 pub fn may_end(due: Due) -> bool
     ensures { result ≡ may_end due }
 {
-    match due {
-        Due::End => true,
-        Due::One(_) => false,
-        Due::Two(_, _) => false,
-        Due::Each(_) => true,
-        Due::OneEach(_, _) => false,
-        Due::Perhaps(_) => true,
-        Due::OnePerhaps(_, _) => false,
-        Due::TwoPerhaps(_, _, _) => false,
-    }
+    matches!(due, Due::End | Due::Each(_) | Due::Perhaps(_))
 }

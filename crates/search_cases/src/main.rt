@@ -3,21 +3,21 @@
 // it is not accepted, with the same height and nodes, or if the room is not zero afterwards. The cases and the lines that are expected come from the second program alone.
 #![tactic(auto)]
 
-ghost use Rattle.std.specs.Prelude.{◌≡◌, ◌<◌, ◌≤◌, length};
+ghost use Rattle.std.specs.Prelude.{◌<◌, length};
 
 use judge::Verdict;
-use programs::{load, number, say, say_number, say_refused, string};
+use programs::{RefusalNumbers, filled, loaded, number, say, split_string};
 use proposal::Proposal;
-use sexp::Value;
 use std::io;
 use std::rt::Files;
 
 // Whether the checker accepts a strip with this height and these nodes.
-fn accepted<'a>(
-    rules: &'a [u8],
-    goal: &'a [u8],
-    terms: &'a [u8],
-    strip: &'a [u8],
+// Kept: height and nodes are numbers that the search gave, and end no slice.
+fn accepted(
+    rules: &[u8],
+    goal: &[u8],
+    terms: &[u8],
+    strip: &[u8],
     high: usize,
     many: usize,
 ) -> bool {
@@ -28,47 +28,32 @@ fn accepted<'a>(
     }
 }
 
-// Prints the strip that was found, and more if it is not accepted.
-fn found<'a>(
+// Prints the strip that was found, and more if it is not accepted. What cannot be printed is left out, here and below.
+fn found(
     out: &impl Print,
-    rules: &'a [u8],
-    goal: &'a [u8],
-    terms: &'a [u8],
-    strip: &'a [u8],
+    rules: &[u8],
+    goal: &[u8],
+    terms: &[u8],
+    strip: &[u8],
     height: usize,
     nodes: usize,
 ) {
-    say(out, b"found");
-    say_number(out, height as u64);
-    say_number(out, nodes as u64);
-    say_number(out, strip.len() as u64);
-    say(out, b" ");
+    let length = strip.len();
+    let _ = print!(out; "found {height} {nodes} {length} ");
     say(out, strip);
     if !accepted(rules, goal, terms, strip, height, nodes) {
         say(out, b" which is not accepted");
     }
 }
 
-// Whether all words of a room are zero, as a search leaves them.
-fn zero(room: &[u32]) -> bool {
-    let mut i = 0;
-    while i < room.len() {
-        if room[i] != 0 {
-            return false;
-        }
-        i += 1;
-    }
-    true
-}
-
-// Searches with a buffer in a room, and prints the answer, and more if the room is not zero afterwards.
-fn searched<'a>(
+// Searches with a buffer in a room, and prints the answer, and more if the room is not zero afterwards, as a search leaves it.
+fn searched(
     out: &impl Print,
-    rules: &'a [u8],
-    goal: &'a [u8],
-    terms: &'a [u8],
+    rules: &[u8],
+    goal: &[u8],
+    terms: &[u8],
     height: usize,
-    strip: &'a mut [u8],
+    strip: &mut [u8],
     room: &mut [u32],
 ) {
     match propose::propose(rules, goal, terms, height, strip, room) {
@@ -81,88 +66,61 @@ fn searched<'a>(
             reason,
             file,
             place,
-        } => say_refused(out, reason, file, place),
+        } => {
+            let _ = out.print(RefusalNumbers::new(reason, file, place));
+        }
     }
-    if !zero(room) {
+    if !room.iter().all(|word| *word == 0) {
         say(out, b" and leaves a room that is not zero");
     }
     say(out, b"\n");
 }
 
-// Bytes for a strip, as many as the largest size that is asked for.
-fn blank() -> [u8; 20000]
-    ensures { 20000 ≡ length result }
-{
-    [0; 20000]
-}
-
 // The same where height and size are given as words.
-fn asked<'a>(
+fn asked(
     out: &impl Print,
-    rules: &'a [u8],
-    goal: &'a [u8],
-    terms: &'a [u8],
-    height: Value,
-    size: Value,
+    rules: &[u8],
+    goal: &[u8],
+    terms: &[u8],
+    height: &[u8],
+    size: &[u8],
     room: &mut [u32],
 ) {
-    match height {
-        Value::Nothing => say(out, b"no height\n"),
-        Value::Is(high) => match size {
-            Value::Nothing => say(out, b"no size\n"),
-            Value::Is(n) => {
-                if 20000 < n {
-                    say(out, b"too large a size\n");
-                    return;
-                }
-                let mut strip = blank();
-                searched(out, rules, goal, terms, high, &mut strip[..n], room);
-            }
-        },
+    let Some(height) = number(height) else {
+        say(out, b"no height\n");
+        return;
+    };
+    let Some(size) = number(size) else {
+        say(out, b"no size\n");
+        return;
+    };
+    let mut strip: [u8; 20000] = filled(0);
+    if strip.len() < size {
+        say(out, b"too large a size\n");
+        return;
     }
+    searched(out, rules, goal, terms, height, &mut strip[..size], room);
 }
 
-// Searches for the case at an offset, and answers where the next one starts.
-fn case(out: &impl Print, s: &[u8], at: usize, room: &mut [u32]) -> usize
-    requires { at < length s.now }
-    ensures { at ≤ result }
+// Searches for the case that a file begins with, and answers what comes after it.
+fn case<'a>(out: &impl Print, file: &'a [u8], room: &mut [u32]) -> &'a [u8]
+    requires { 0 < length file.now }
+    ensures { length result.now < length file.now }
 {
-    let rules = string(s, at);
-    let b = rules.from;
-    let c = rules.to;
-    let goal = string(s, c);
-    let d = goal.from;
-    let e = goal.to;
-    let terms = string(s, e);
-    let f = terms.from;
-    let g = terms.to;
-    let height = string(s, g);
-    let h = height.from;
-    let i = height.to;
-    let size = string(s, i);
-    let j = size.from;
-    let k = size.to;
-    asked(
-        out,
-        &s[b..c],
-        &s[d..e],
-        &s[f..g],
-        number(&s[h..i]),
-        number(&s[j..k]),
-        room,
-    );
-    k
+    let (rules, rest) = split_string(file);
+    let (goal, rest) = split_string(rest);
+    let (terms, rest) = split_string(rest);
+    let (height, rest) = split_string(rest);
+    let (size, rest) = split_string(rest);
+    asked(out, rules, goal, terms, height, size, room);
+    rest
 }
 
 // Searches for all cases of a file in one room.
-fn cases(out: &impl Print, s: &[u8], room: &mut [u32]) {
-    let mut at = 0;
-    while at < s.len() {
-        let next = case(out, s, at, room);
-        if next <= at {
-            return;
-        }
-        at = next;
+fn cases(out: &impl Print, file: &[u8], room: &mut [u32]) {
+    let mut rest = file;
+    while !rest.is_empty() {
+        rest = case(out, rest, room);
     }
 }
 
@@ -173,41 +131,20 @@ fn part(
     buf: &mut [u8],
     room: &mut [u32],
 ) -> io::Result<()> {
-    let n = load(rt, name, buf)?;
-    cases(rt, &buf[..n], room);
+    cases(rt, loaded(rt, name, buf)?, room);
     Ok(())
 }
 
-// The same in the least room, in one of a word more, and in a long one.
-fn in_least(rt: &(impl Files + Print), name: &[u8], buf: &mut [u8]) -> io::Result<()> {
-    let mut room = [0u32; 8192];
-    part(rt, name, buf, &mut room)
-}
-
-fn in_one_more(rt: &(impl Files + Print), name: &[u8], buf: &mut [u8]) -> io::Result<()> {
-    let mut room = [0u32; 8193];
-    part(rt, name, buf, &mut room)
-}
-
-fn in_long(rt: &(impl Files + Print), name: &[u8], buf: &mut [u8]) -> io::Result<()> {
-    let mut room = [0u32; 100000];
-    part(rt, name, buf, &mut room)
-}
-
-// Bytes for a file of cases.
-fn file_room() -> [u8; 393216]
-    ensures { 393216 ≡ length result }
-{
-    [0; 393216]
-}
-
 fn main(rt: HostRuntime) -> io::Result<()> {
-    let mut buf = file_room();
-    in_least(&rt, b"cases1", &mut buf)?;
-    in_least(&rt, b"cases2", &mut buf)?;
-    in_least(&rt, b"cases3", &mut buf)?;
-    in_least(&rt, b"cases4", &mut buf)?;
-    in_least(&rt, b"cases5", &mut buf)?;
-    in_one_more(&rt, b"cases5", &mut buf)?;
-    in_long(&rt, b"cases5", &mut buf)
+    let mut buf: [u8; 393216] = filled(0);
+    // The least room, one of a word more, and a long one.
+    let mut least = [0u32; 8192];
+    let mut one_more = [0u32; 8193];
+    let mut long = [0u32; 100000];
+    let names: [&[u8]; 5] = [b"cases1", b"cases2", b"cases3", b"cases4", b"cases5"];
+    for name in names {
+        part(&rt, name, &mut buf, &mut least)?;
+    }
+    part(&rt, b"cases5", &mut buf, &mut one_more)?;
+    part(&rt, b"cases5", &mut buf, &mut long)
 }

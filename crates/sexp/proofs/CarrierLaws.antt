@@ -9,8 +9,7 @@ use lib.ListN.{length, get_or, drop, length-drop}
 use borrow.Author.Tests.{eq-eqb, ne_eqb}
 use Rattle.sexp.specs.declared.carrier.Carrier.{Carrier}
 use Rattle.sexp.specs.declared.carrier.Carrier.TheVariants.{Sound, Fault, Deep}
-use Rattle.sexp.specs.declared.text.Reading.{Reading}
-use Rattle.sexp.specs.declared.text.Reading.TheVariants.{Spans, Stuck}
+use Rattle.std.specs.Prelude.{Result, Ok, Err}
 use Rattle.sexp.specs.Decimal.{is_digit}
 use Rattle.sexp.specs.Sexp.{spell}
 use Rattle.sexp.specs.Known.{text_of}
@@ -86,11 +85,11 @@ module _ (hints : Bool) (limit : ℕ) (s : List ℕ) (at : ℕ) (v : Carrier) wh
   mark-text (some h) bs d = refl
 
   -- a string, where the next byte is no parenthesis
-  module _ (d : ℕ) (r : Reading) (l : at < length s) (no-open : get_or s at 0 ≡ 40 → ⊥) (no-close : get_or s at 0 ≡ 41 → ⊥) (p : TextAt hints s at r) where
-    pub text-stuck : (o : ℕ) → r ≡ Stuck o → scan hints limit (item d) at v (drop at s) ≡ Fault o
+  module _ (d : ℕ) (r : Result (ℕ × ℕ) ℕ) (l : at < length s) (no-open : get_or s at 0 ≡ 40 → ⊥) (no-close : get_or s at 0 ≡ 41 → ⊥) (p : TextAt hints s at r) where
+    pub text-stuck : (o : ℕ) → r ≡ Err o → scan hints limit (item d) at v (drop at s) ≡ Fault o
     text-stuck o e = item-due d l no-close ∙ (subst (TextAt hints s at) e p).1 d no-open limit v
 
-    pub text-spans : (from to : ℕ) → r ≡ Spans from to → (at < to) × ((to ≤ length s) × (scan hints limit (item d) at v (drop at s) ≡ scan hints limit (owed (after d) 0) to v (drop to s)))
+    pub text-spans : (from to : ℕ) → r ≡ Ok (from, to) → (at < to) × ((to ≤ length s) × (scan hints limit (item d) at v (drop at s) ≡ scan hints limit (owed (after d) 0) to v (drop to s)))
     text-spans from to e =
         let (a, (h, bs, y, f, w)) = subst (TextAt hints s at) e p in
         let x = text_of h bs in

@@ -5,12 +5,7 @@ use mathlib.Core.Bool.{Bool, true, false, false≢true}
 use mathlib.Core.List.{List}
 use lib.ListN.{length, take, drop}
 use Rattle.basics.specs.Tells.{Tells, tells-once, tells_as}
-use Rattle.sexp.specs.declared.skip.After.{After}
-use Rattle.sexp.specs.declared.skip.After.TheVariants as after
-use Rattle.sexp.specs.declared.strings.Octets.{Octets}
-use Rattle.sexp.specs.declared.strings.Octets.TheVariants as octets
-use Rattle.sexp.specs.declared.words.Value.{Value}
-use Rattle.sexp.specs.declared.words.Value.TheVariants as value
+use Rattle.std.specs.Prelude.{Option, Some, None}
 use Rattle.sexp.specs.Sexp.{Sexp, Sexps, str, hinted, list, cons, spell, nesting, Stands, StandsAll}
 use Rattle.sexp.specs.Past.{Ends, PastAt}
 use Rattle.sexp.specs.Strings.{Plain, PlainAt}
@@ -21,8 +16,8 @@ use Rattle.sexp.proofs.AnswerLaws.{past-answer, plain-answer}
 use Rattle.sexp.proofs.WordsAtLaws.{test-tells, number-answer}
 
 -- past an expression
-pub found-past : (s : List ℕ) (at nest : ℕ) (r : After) {e : Sexp} → Stands s at e → nesting e ≤ nest → PastAt s at nest r → r ≡ after.Next (at + length (spell e))
-found-past s at nest r {e} h d p = past-answer s at nest r (after.Next (at + length (spell e))) p (record { expression = e; stands = h; shallow = d; ends = refl })
+pub found-past : (s : List ℕ) (at nest : ℕ) (r : Option ℕ) {e : Sexp} → Stands s at e → nesting e ≤ nest → PastAt s at nest r → r ≡ Some (at + length (spell e))
+found-past s at nest r {e} h d p = past-answer s at nest r (Some (at + length (spell e))) p (record { expression = e; stands = h; shallow = d; ends = refl })
 
 -- past a member of a list, to the others
 pub ends-here : {s : List ℕ} {at nest n : ℕ} {e : Sexp} → Stands s at e → Ends s at nest n → n ≡ at + length (spell e)
@@ -44,8 +39,8 @@ pub list-no-string : {s : List ℕ} {at : ℕ} {xs : Sexps} {w : List ℕ} → S
 unfolding is-string
 list-no-string h g = false≢true (ap is-string (stands-once h g))
 
-pub list-no-plain : (s : List ℕ) (at : ℕ) (r : Octets) {xs : Sexps} → Stands s at (list xs) → PlainAt s at r → r ≡ octets.Nothing
-list-no-plain s at r h p = plain-answer s at r octets.Nothing p (λ w g. list-no-string h g)
+pub list-no-plain : (s : List ℕ) (at : ℕ) (r : Option (ℕ × ℕ)) {xs : Sexps} → Stands s at (list xs) → PlainAt s at r → r ≡ None
+list-no-plain s at r h p = plain-answer s at r None p (λ w g. list-no-string h g)
 
 -- words, names and numbers
 pub found_word : {s : List ℕ} {at : ℕ} {w : List ℕ} (v : List ℕ) (r : Bool) → Stands s at (str w) → Tells r (Stands s at (str v)) → Tells r (w ≡ v)
@@ -62,12 +57,12 @@ found_name {s} {at} {w} r h p =
 pub list-no-name : {s : List ℕ} {at : ℕ} {xs : Sexps} (r : Bool) → Stands s at (list xs) → Tells r (Named s at) → r ≡ false
 list-no-name {s} {at} r h p = tells-once (Named s at) r false p (λ g. list-no-string h g.stands)
 
-pub found_number : (s : List ℕ) (at : ℕ) (r : Value) {w : List ℕ} → Stands s at (str w) → is_number w ≡ true → NumberAt s at r → r ≡ value.Is (worth w)
-found_number s at r {w} h e p = number-answer s at r (value.Is (worth w)) p (record { octets = w; stands = h; number = e; says = refl })
+pub found_number : (s : List ℕ) (at : ℕ) (r : Option ℕ) {w : List ℕ} → Stands s at (str w) → is_number w ≡ true → NumberAt s at r → r ≡ Some (worth w)
+found_number s at r {w} h e p = number-answer s at r (Some (worth w)) p (record { octets = w; stands = h; number = e; says = refl })
 
-pub found-no-number : (s : List ℕ) (at : ℕ) (r : Value) {w : List ℕ} → Stands s at (str w) → is_number w ≡ false → NumberAt s at r → r ≡ value.Nothing
+pub found-no-number : (s : List ℕ) (at : ℕ) (r : Option ℕ) {w : List ℕ} → Stands s at (str w) → is_number w ≡ false → NumberAt s at r → r ≡ None
 found-no-number s at r h e p =
-    number-answer s at r value.Nothing p (λ v g f. false≢true (sym e ∙ ap is_number (string-once h g) ∙ f))
+    number-answer s at r None p (λ v g f. false≢true (sym e ∙ ap is_number (string-once h g) ∙ f))
 
-pub list-no-number : (s : List ℕ) (at : ℕ) (r : Value) {xs : Sexps} → Stands s at (list xs) → NumberAt s at r → r ≡ value.Nothing
-list-no-number s at r h p = number-answer s at r value.Nothing p (λ v g f. list-no-string h g)
+pub list-no-number : (s : List ℕ) (at : ℕ) (r : Option ℕ) {xs : Sexps} → Stands s at (list xs) → NumberAt s at r → r ≡ None
+list-no-number s at r h p = number-answer s at r None p (λ v g f. list-no-string h g)

@@ -1,14 +1,12 @@
--- How a decimal number is read digit by digit where it stands in bytes, and where it ends; and what the code's two tests of a digit say.
+-- How a decimal number is read digit by digit where it stands in bytes, and where it ends.
 use Prim.Native.Nat.{ℕ, ◌+◌, ◌-◌, ◌*◌, ◌<◌, ◌≤◌, min}
 use mathlib.Core.Path.{◌≡◌, refl, sym, ap, ◌∙◌}
-use mathlib.Core.Bool.{true, false, ◌&&◌}
+use mathlib.Core.Bool.{true, false}
 use mathlib.Core.List.{List, ◌∷◌}
 use native.Mathlib.Numerals.{add-one}
 use native.Mathlib.Omega.{arith}
-use lib.Dec.{leb}
 use lib.ListN.{length, get_or, drop, get_or-eq_default}
 use lib.Seq.{drop-cons}
-use borrow.Author.Tests.{le-leb, lt-leb}
 use Rattle.sexp.specs.Decimal.{decimal_onto, is_digit}
 use Rattle.sexp.specs.Number.{largest, Digits, Number}
 use Rattle.sexp.proofs.DecimalLaws.{digit_low, digit-high, onto-small, onto-step}
@@ -61,18 +59,3 @@ module _ (s : List ℕ) (at : ℕ) where
   pub over-end : (v i : ℕ) → Digits s at v i → length s ≤ i → Number s at v i
   unfolding is_digit
   over-end v i r h = over-digit v i r (ap is_digit (get_or-eq_default s 0 h))
-
--- the code's two tests of a range, and of a digit
-pub range-tests : (low high c : ℕ) → low ≤ c → leb c high ≡ leb low c && leb c high
-range-tests low high c h = sym (simp (le-leb low c h) refl)
-
-pub range-first : (low high c : ℕ) → c < low → leb low c ≡ leb low c && leb c high
-range-first low high c h = let e : leb low c ≡ false = lt-leb low c h in rw e refl
-
-pub digit-tests : (c : ℕ) → 48 ≤ c → leb c 57 ≡ is_digit c
-unfolding is_digit
-digit-tests c h = range-tests 48 57 c h
-
-pub digit-first : (c : ℕ) → c < 48 → leb 48 c ≡ is_digit c
-unfolding is_digit
-digit-first c h = range-first 48 57 c h

@@ -8,7 +8,7 @@ use native.Mathlib.Omega.{arith}
 use lib.ListN.{length, get_or, take, drop, length-drop, length-append, take-append-drop}
 use lib.Seq.{take-append_seam}
 use Rattle.basics.specs.Tells.{Tells, tells_as}
-use Rattle.sexp.specs.declared.text.Reading.TheVariants.{Spans, Stuck}
+use Rattle.std.specs.Prelude.{Ok, Err}
 use Rattle.sexp.specs.Decimal.{is_digit}
 use Rattle.sexp.specs.Sexp.{str, Stands}
 use Rattle.sexp.specs.Text.{VerbatimAt}
@@ -63,16 +63,16 @@ module _ (s : List ℕ) (at : ℕ) where
       (λ h. sym q ∙ (short-bytes l h).octets)
 
   -- a string whose length is one digit, read at once
-  pub short-spans : at + 1 < length s → is_digit (get_or s at 0) ≡ true → get_or s (at + 1) 0 ≡ 58 → get_or s at 0 - 48 < length s - at - 1 → length s < 9223372036854775808 → VerbatimAt s at (Spans (at + 2) (at + 2 + (get_or s at 0 - 48)))
+  pub short-spans : at + 1 < length s → is_digit (get_or s at 0) ≡ true → get_or s (at + 1) 0 ≡ 58 → get_or s at 0 - 48 < length s - at - 1 → length s < 9223372036854775808 → VerbatimAt s at (Ok (at + 2, at + 2 + (get_or s at 0 - 48)))
   unfolding is_digit
   short-spans h d c l b =
       let v = get_or s at 0 - 48 in
       let r = over-digit s at v (at + 1) (digits-start s at (omega arith) d) (ap is_digit c) in
-      subst (λ (x : ℕ). VerbatimAt s at (Spans x (x + v))) {x = at + 1 + 1} {y = at + 2} (omega arith)
+      subst (λ (x : ℕ). VerbatimAt s at (Ok (x, x + v))) {x = at + 1 + 1} {y = at + 2} (omega arith)
       (spans s at v (at + 1) r h c (omega arith) b)
 
   -- and one that is too long for the bytes
-  pub short_stuck : at + 1 < length s → is_digit (get_or s at 0) ≡ true → get_or s (at + 1) 0 ≡ 58 → (get_or s at 0 - 48 < length s - at - 1 → ⊥) → length s < 9223372036854775808 → VerbatimAt s at (Stuck (length s))
+  pub short_stuck : at + 1 < length s → is_digit (get_or s at 0) ≡ true → get_or s (at + 1) 0 ≡ 58 → (get_or s at 0 - 48 < length s - at - 1 → ⊥) → length s < 9223372036854775808 → VerbatimAt s at (Err (length s))
   unfolding is_digit
   short_stuck h d c l b =
       let v = get_or s at 0 - 48 in

@@ -2,36 +2,32 @@
 -- From document 01, "comparing and skipping nested terms in bytes, remaining nesting falls".
 use Prim.Native.Nat.{ℕ, ◌+◌, ◌-◌, ◌<◌, ◌≤◌}
 use mathlib.Core.Path.{◌≡◌, refl, sym, ◌∙◌, ap, ap₂, subst}
-use mathlib.Core.Bool.{Bool, true, false}
+use mathlib.Core.Bool.{true}
 use mathlib.Core.List.{List}
 use mathlib.Core.Option.{Option, none, some}
 use native.Mathlib.Omega.{arith}
-use lib.Dec.{leb}
 use lib.ListN.{length, get_or, take, drop, length-drop}
 use lib.Seq.{take-append_seam}
-use borrow.Author.Tests.{leb-true, leb-false}
-use Rattle.sexp.specs.declared.skip.After.{After}
-use Rattle.sexp.specs.declared.skip.After.TheVariants.{Next, Nothing}
-use Rattle.sexp.specs.declared.text.Reading.{Reading}
-use Rattle.sexp.specs.declared.text.Reading.TheVariants.{Spans, Stuck}
+use Rattle.std.specs.Prelude as std
+use Rattle.std.specs.Prelude.{Some, None, Result, Ok, Err}
 use Rattle.sexp.specs.Decimal.{is_digit}
 use Rattle.sexp.specs.Sexp.{Sexp, Sexps, str, hinted, list, nil, cons, spell_onto, spell, spells, nesting, nestings, Stands, StandsAll}
 use Rattle.sexp.specs.Known.{Known, text_of}
 use Rattle.sexp.specs.Text.{VerbatimAt, TextAt}
 use Rattle.sexp.specs.Strings.{Plain}
-use Rattle.sexp.specs.Past.{Ends, PastAt, StringEnd}
+use Rattle.sexp.specs.Past.{Ends, PastAt}
 use Rattle.sexp.proofs.DecimalLaws.{digit_low, digit-high}
 use Rattle.sexp.proofs.SpellLaws.{spell-length}
 use Rattle.sexp.proofs.OntoLaws.{spell-some}
-use Rattle.sexp.proofs.StandLaws.{none-closes, stands-inside, all-before, stands-once, members-stand, first-stands, others-stand, list-stands, none-stand, more-stand, opens-list, opens_not, list_length, cons-length}
+use Rattle.sexp.proofs.StandLaws.{none-closes, all-before, stands-once, members-stand, first-stands, others-stand, list-stands, none-stand, more-stand, opens-list, opens_not, list_length, cons-length}
 use Rattle.sexp.proofs.ShortLaws.{short-spans, short_stuck}
 use Rattle.sexp.proofs.TextLaws.{text-unhinted}
 
 -- a plain string that is read, and one that is not
-pub plain-spans : (s : List ℕ) (at from to : ℕ) (r : Reading) → r ≡ Spans from to → VerbatimAt s at r → Plain s at from (to - from)
-plain-spans s at from to r q h = spans (subst (λ (x : Reading). VerbatimAt s at x) q h)
+pub plain-spans : (s : List ℕ) (at from to : ℕ) (r : Result (ℕ × ℕ) ℕ) → r ≡ Ok (from, to) → VerbatimAt s at r → Plain s at from (to - from)
+plain-spans s at from to r q h = spans (subst (λ (x : Result (ℕ × ℕ) ℕ). VerbatimAt s at x) q h)
   where
-    spans : VerbatimAt s at (Spans from to) → Plain s at from (to - from)
+    spans : VerbatimAt s at (Ok (from, to)) → Plain s at from (to - from)
     spans (a, (bs, e, w)) =
         let n : to - from ≡ length bs = omega (arith, w.long) in
         let l = sym (length-drop at s) ∙ ap length e ∙ spell-length (str bs) (drop to s) in
@@ -43,28 +39,28 @@ plain-spans s at from to r q h = spans (subst (λ (x : Reading). VerbatimAt s at
           ends = omega (arith, a, l, w.long, w.inside, length-drop to s);
         }
 
-pub plain-order : (s : List ℕ) (at from to : ℕ) (r : Reading) → r ≡ Spans from to → VerbatimAt s at r → from ≤ to
-plain-order s at from to r q h = let z = (subst (λ (x : Reading). VerbatimAt s at x) q h).1.2.long in omega arith
+pub plain-order : (s : List ℕ) (at from to : ℕ) (r : Result (ℕ × ℕ) ℕ) → r ≡ Ok (from, to) → VerbatimAt s at r → from ≤ to
+plain-order s at from to r q h = let z = (subst (λ (x : Result (ℕ × ℕ) ℕ). VerbatimAt s at x) q h).1.2.long in omega arith
 
-pub plain-stuck : (s : List ℕ) (at o : ℕ) (r : Reading) → r ≡ Stuck o → VerbatimAt s at r → (w : List ℕ) → Stands s at (str w) → ⊥
-plain-stuck s at o r q h w g = (subst (λ (x : Reading). VerbatimAt s at x) q h).0 w g.rest g.spelt
+pub plain-stuck : (s : List ℕ) (at o : ℕ) (r : Result (ℕ × ℕ) ℕ) → r ≡ Err o → VerbatimAt s at r → (w : List ℕ) → Stands s at (str w) → ⊥
+plain-stuck s at o r q h w g = (subst (λ (x : Result (ℕ × ℕ) ℕ). VerbatimAt s at x) q h).0 w g.rest g.spelt
 
 -- one whose length is one digit
 pub plain-short : (s : List ℕ) (at : ℕ) → at + 1 < length s → is_digit (get_or s at 0) ≡ true → get_or s (at + 1) 0 ≡ 58 → get_or s at 0 - 48 < length s - at - 1 → length s < 9223372036854775808 → Plain s at (at + 2) (get_or s at 0 - 48)
 plain-short s at h d c l b =
     let to = at + 2 + (get_or s at 0 - 48) in
     subst (Plain s at (at + 2)) {x = to - (at + 2)} {y = get_or s at 0 - 48} (omega arith)
-    (plain-spans s at (at + 2) to (Spans (at + 2) to) refl (short-spans s at h d c l b))
+    (plain-spans s at (at + 2) to (Ok (at + 2, to)) refl (short-spans s at h d c l b))
 
 -- the same of a string with a hint or without
 flat : (h : Option (List ℕ)) (bs : List ℕ) → nesting (text_of h bs) ≡ 0
 flat none bs = refl
 flat (some h) bs = refl
 
-pub past-spans : (s : List ℕ) (at from to : ℕ) (r : Reading) → r ≡ Spans from to → TextAt true s at r → Ends s at 0 to
-past-spans s at from to r q h = spans (subst (λ (x : Reading). TextAt true s at x) q h)
+pub past-spans : (s : List ℕ) (at from to : ℕ) (r : Result (ℕ × ℕ) ℕ) → r ≡ Ok (from, to) → TextAt true s at r → Ends s at 0 to
+past-spans s at from to r q h = spans (subst (λ (x : Result (ℕ × ℕ) ℕ). TextAt true s at x) q h)
   where
-    spans : TextAt true s at (Spans from to) → Ends s at 0 to
+    spans : TextAt true s at (Ok (from, to)) → Ends s at 0 to
     spans (a, (h, bs, k, e, w)) =
         let l = sym (length-drop at s) ∙ ap length e ∙ spell-length (text_of h bs) (drop to s) in
         record {
@@ -74,8 +70,8 @@ past-spans s at from to r q h = spans (subst (λ (x : Reading). TextAt true s at
           ends = omega (arith, a, l, w.long, w.inside, length-drop to s);
         }
 
-pub past-stuck : (s : List ℕ) (at o : ℕ) (r : Reading) → r ≡ Stuck o → TextAt true s at r → (e : Sexp) → Stands s at e → nesting e ≤ 0 → ⊥
-past-stuck s at o r q h = stuck (subst (λ (x : Reading). TextAt true s at x) q h).0
+pub past-stuck : (s : List ℕ) (at o : ℕ) (r : Result (ℕ × ℕ) ℕ) → r ≡ Err o → TextAt true s at r → (e : Sexp) → Stands s at e → nesting e ≤ 0 → ⊥
+past-stuck s at o r q h = stuck (subst (λ (x : Result (ℕ × ℕ) ℕ). TextAt true s at x) q h).0
   where
     stuck : ((h : Option (List ℕ)) (bs rest : List ℕ) → Known true (text_of h bs) → drop at s ≡ spell_onto (text_of h bs) rest → ⊥) → (e : Sexp) → Stands s at e → nesting e ≤ 0 → ⊥
     stuck n (str w) g d = n none w g.rest tt g.spelt
@@ -83,11 +79,11 @@ past-stuck s at o r q h = stuck (subst (λ (x : Reading). TextAt true s at x) q 
     stuck n (list xs) g d = omega arith
 
 -- past an expression that opens no list it does not matter how deep lists may nest; and where one opens, it must be allowed
-pub past-flat : (s : List ℕ) (at nest : ℕ) (r : After) → (get_or s at 0 ≡ 40 → ⊥) → PastAt s at 0 r → PastAt s at nest r
-past-flat s at nest (Next n) b h = record { expression = h.expression; stands = h.stands; shallow = omega (arith, h.shallow); ends = h.ends }
-past-flat s at nest Nothing b h = λ e g d. h e g (omega (arith, opens_not g b))
+pub past-flat : (s : List ℕ) (at nest : ℕ) (r : std.Option ℕ) → (get_or s at 0 ≡ 40 → ⊥) → PastAt s at 0 r → PastAt s at nest r
+past-flat s at nest (Some n) b h = record { expression = h.expression; stands = h.stands; shallow = omega (arith, h.shallow); ends = h.ends }
+past-flat s at nest None b h = λ e g d. h e g (omega (arith, opens_not g b))
 
-pub past-deep : (s : List ℕ) (at nest : ℕ) → get_or s at 0 ≡ 40 → nest ≡ 0 → PastAt s at nest Nothing
+pub past-deep : (s : List ℕ) (at nest : ℕ) → get_or s at 0 ≡ 40 → nest ≡ 0 → PastAt s at nest None
 past-deep s at nest b z = none
   where
     none : (e : Sexp) → Stands s at e → nesting e ≤ nest → ⊥
@@ -133,33 +129,9 @@ module _ (s : List ℕ) (at nest i : ℕ) (g : Going s at nest i) where
           let e = ap (λ (z : Sexp). i + length (spell z)) (stands-once (first-stands k) h.stands) ∙ sym h.ends in
           (zs, subst (λ (j : ℕ). StandsAll s j zs) e (others-stand k), omega (arith, d))
 
-  -- a string is passed, or none stands there, and then no list is whole
-  pub going-string : (n : ℕ) → (get_or s i 0 ≡ 41 → ⊥) → (get_or s i 0 ≡ 40 → ⊥) → StringEnd s i n → Going s at nest n
-  going-string n b c h = go (leb n (length s)) refl
-    where
-      none : length s < n → (ys : Sexps) × StandsAll s i ys × (nestings ys ≤ nest) → ⊥
-      none l (nil, k, d) = b (none-closes k)
-      none l (cons y ys, k, d) = h.none l y (first-stands k) (omega (arith, opens_not (first-stands k) c))
-
-      go : (t : Bool) → leb n (length s) ≡ t → Going s at nest n
-      go true e = going_on n b (past-flat s i nest (Next n) c (h.ends (leb-true n (length s) e)))
-      go false e =
-          let l = leb-false n (length s) e in
-          record {
-            whole = λ ys k d. absurd (omega (arith, l, all-before k));
-            left = λ xs k d. absurd (none l (g.left xs k d));
-          }
-
 -- what is passed ends further on
 pub ends-further : (s : List ℕ) (at nest n : ℕ) → Ends s at nest n → at < n
 ends-further s at nest n h = omega (arith, h.ends, spell-some h.expression)
-
-pub string-further : (s : List ℕ) (at n : ℕ) → at < length s → StringEnd s at n → at < n
-string-further s at n z h = go (leb n (length s)) refl
-  where
-    go : (t : Bool) → leb n (length s) ≡ t → at < n
-    go true e = ends-further s at 0 n (h.ends (leb-true n (length s) e))
-    go false e = omega (arith, leb-false n (length s) e, z)
 
 module _ (s : List ℕ) (at nest i : ℕ) (b : get_or s at 0 ≡ 40) (z : nest ≡ 0 → ⊥) (g : Going s at (nest - 1) i) where
   -- the closing parenthesis ends the list
@@ -190,25 +162,18 @@ module _ (s : List ℕ) (at nest i : ℕ) (b : get_or s at 0 ≡ 40) (z : nest �
       stop (nil, k, d) = c (none-closes k)
       stop (cons y ys, k, d) = f y (first-stands k) (omega (arith, d))
 
--- the end of a string whose length is one digit, and of any other
-module _ (s : List ℕ) (at : ℕ) (b : length s < 9223372036854775808) where
-  pub string-short : at + 1 < length s → is_digit (get_or s at 0) ≡ true → get_or s (at + 1) 0 ≡ 58 → StringEnd s at (at + 2 + (get_or s at 0 - 48))
-  string-short h d c = record {
-    ends = λ l. past-spans s at (at + 2) (at + 2 + v) (Spans (at + 2) (at + 2 + v)) refl (text-unhinted true s at (Spans (at + 2) (at + 2 + v)) (omega arith) bracket (short-spans s at h d c (omega (arith, l)) b));
-    none = λ l. past-stuck s at (length s) (Stuck (length s)) refl (text-unhinted true s at (Stuck (length s)) (omega arith) bracket (short_stuck s at h d c (omega (arith, l)) b));
-  }
-    where
-      v : ℕ
-      v = get_or s at 0 - 48
+-- the end of a string whose length is one digit, and that none stands there where the bytes end before it
+module _ (s : List ℕ) (at : ℕ) (b : length s < 9223372036854775808) (h : at + 1 < length s) (d : is_digit (get_or s at 0) ≡ true) (c : get_or s (at + 1) 0 ≡ 58) where
+  bracket : get_or s at 0 ≡ 91 → ⊥
+  bracket e = omega (arith, e, digit-high (get_or s at 0) d)
 
-      bracket : get_or s at 0 ≡ 91 → ⊥
-      bracket e = omega (arith, e, digit-high (get_or s at 0) d)
+  pub string-short : at + 2 + (get_or s at 0 - 48) ≤ length s → Ends s at 0 (at + 2 + (get_or s at 0 - 48))
+  string-short l =
+      let v = get_or s at 0 - 48 in
+      past-spans s at (at + 2) (at + 2 + v) (Ok (at + 2, at + 2 + v)) refl (text-unhinted true s at (Ok (at + 2, at + 2 + v)) (omega arith) bracket (short-spans s at h d c (omega (arith, l)) b))
 
-  pub string-next : (n : ℕ) → Ends s at 0 n → StringEnd s at n
-  string-next n h = record { ends = λ l. h; none = λ l. absurd (omega (arith, l, h.ends, stands-inside h.stands)) }
-
-  pub string-none : PastAt s at 0 Nothing → StringEnd s at 18446744073709551615
-  string-none h = record { ends = λ l. absurd (omega (arith, l, b)); none = λ l. h }
+  pub string-long : length s < at + 2 + (get_or s at 0 - 48) → PastAt s at 0 None
+  string-long l = past-stuck s at (length s) (Err (length s)) refl (text-unhinted true s at (Err (length s)) (omega arith) bracket (short_stuck s at h d c (omega (arith, l)) b))
 
 -- a list that holds no other may stand wherever a list may
 pub pair-past : (s : List ℕ) (at nest n : ℕ) → (nest ≡ 0 → ⊥) → Ends s at 1 n → Ends s at nest n
@@ -223,11 +188,11 @@ module _ (s : List ℕ) (at : ℕ) (b : length s < 9223372036854775808) where
       first : Going s at 0 (at + 4)
       first =
           subst (Going s at 0) {x = at + 1 + 2 + (get_or s (at + 1) 0 - 48)} {y = at + 4} (omega (arith, e))
-          (going-string s at 0 (at + 1) (going_start s at 0) (at + 1 + 2 + (get_or s (at + 1) 0 - 48)) (λ k. omega (arith, e, k)) (λ k. omega (arith, e, k))
-          (string-short s (at + 1) b (omega (arith, q, l)) (ap is_digit e) (ap (λ (i : ℕ). get_or s i 0) {x = at + 1 + 1} {y = at + 2} (omega arith) ∙ c)))
+          (going_on s at 0 (at + 1) (going_start s at 0) (at + 1 + 2 + (get_or s (at + 1) 0 - 48)) (λ k. omega (arith, e, k))
+          (string-short s (at + 1) b (omega (arith, q, l)) (ap is_digit e) (ap (λ (i : ℕ). get_or s i 0) {x = at + 1 + 1} {y = at + 2} (omega arith) ∙ c) (omega (arith, e, q, l))))
 
       last : Going s at 0 n
       last =
           subst (Going s at 0) {x = at + 4 + 2 + (get_or s (at + 4) 0 - 48)} {y = n} (omega (arith, q))
-          (going-string s at 0 (at + 4) first (at + 4 + 2 + (get_or s (at + 4) 0 - 48)) (λ k. omega (arith, k, digit_low (get_or s (at + 4) 0) d)) (λ k. omega (arith, k, digit_low (get_or s (at + 4) 0) d))
-          (string-short s (at + 4) b (omega (arith, q, l)) d (ap (λ (i : ℕ). get_or s i 0) {x = at + 4 + 1} {y = at + 5} (omega arith) ∙ f)))
+          (going_on s at 0 (at + 4) first (at + 4 + 2 + (get_or s (at + 4) 0 - 48)) (λ k. omega (arith, k, digit_low (get_or s (at + 4) 0) d))
+          (string-short s (at + 4) b (omega (arith, q, l)) d (ap (λ (i : ℕ). get_or s i 0) {x = at + 4 + 1} {y = at + 5} (omega arith) ∙ f) (omega (arith, q, l))))

@@ -11,8 +11,7 @@ use lib.Seq.{drop-drop}
 use borrow.Author.Tests.{ltb-true, ltb-false, eq-eqb}
 use Rattle.sexp.specs.declared.carrier.Carrier.{Carrier}
 use Rattle.sexp.specs.declared.carrier.Carrier.TheVariants.{Fault}
-use Rattle.sexp.specs.declared.text.Reading.{Reading}
-use Rattle.sexp.specs.declared.text.Reading.TheVariants.{Spans, Stuck}
+use Rattle.std.specs.Prelude.{Result, Ok, Err}
 use Rattle.sexp.specs.Decimal.{decimal_onto, is_digit}
 use Rattle.sexp.specs.Number.{Number}
 use Rattle.sexp.specs.Sexp.{verbatim_onto, spell_onto}
@@ -42,12 +41,12 @@ module _ (s : List ℕ) (at : ℕ) where
       let t = starts c r (f ∙ e) in
       false≢true (sym h ∙ ap is_digit t.1.0 ∙ digit-is c l.0 l.1)
 
-  pub stuck-end : length s ≤ at → VerbatimAt s at (Stuck at)
+  pub stuck-end : length s ≤ at → VerbatimAt s at (Err at)
   unfolding is_digit ended
   stuck-end h =
       (none-digit (ap is_digit (get_or-eq_default s 0 h)), λ hints t limit v. at-end hints limit s (string t) at v h)
 
-  pub stuck-digit : at < length s → is_digit (get_or s at 0) ≡ false → VerbatimAt s at (Stuck at)
+  pub stuck-digit : at < length s → is_digit (get_or s at 0) ≡ false → VerbatimAt s at (Err at)
   stuck-digit h e =
       (none-digit e, λ hints t limit v. at_none hints limit s (string t) at v h (string-none hints t (get_or s at 0) e))
 
@@ -87,7 +86,7 @@ module _ (s : List ℕ) (at : ℕ) where
         ∙ spelt-number hints limit r.digits.worth t at m (drop i s)
         ∙ ap (λ (x : ℕ). scan hints limit (number t r.digits.worth) x m (drop i s)) {x = at + length (decimal_onto r.digits.worth [])} {y = i} (omega (arith, f, onto-length r.digits.worth (drop i s), length-drop at s, length-drop i s, a, l))
 
-    pub stuck-number : length s ≤ i → VerbatimAt s at (Stuck i)
+    pub stuck-number : length s ≤ i → VerbatimAt s at (Err i)
     unfolding ended
     stuck-number h = (
       λ bs rest f.
@@ -96,7 +95,7 @@ module _ (s : List ℕ) (at : ℕ) where
       λ hints t limit m. scan-number hints t limit m ∙ at-end hints limit s (number t r.digits.worth) i m h,
     )
 
-    pub stuck-colon : i < length s → (get_or s i 0 ≡ 58 → ⊥) → VerbatimAt s at (Stuck i)
+    pub stuck-colon : i < length s → (get_or s i 0 ≡ 58 → ⊥) → VerbatimAt s at (Err i)
     stuck-colon h n = (
       λ bs rest f. n (ap (λ (w : List ℕ). get_or w 0 0) (sym (drop_here s i h) ∙ (number-once (length bs) (bs ++ rest) f).1)),
       λ hints t limit m.
@@ -110,7 +109,7 @@ module _ (s : List ℕ) (at : ℕ) where
         scan-number hints t limit m
         ∙ at_some hints limit s (number t r.digits.worth) (owed t r.digits.worth) i m h (number-colon hints t r.digits.worth (get_or s i 0) e)
 
-    pub stuck-octets : i < length s → get_or s i 0 ≡ 58 → (v < length s - i → ⊥) → length s < 9223372036854775808 → VerbatimAt s at (Stuck (length s))
+    pub stuck-octets : i < length s → get_or s i 0 ≡ 58 → (v < length s - i → ⊥) → length s < 9223372036854775808 → VerbatimAt s at (Err (length s))
     stuck-octets h e l b =
         let k = r.digits.clipped in
         let many : length s - i ≤ r.digits.worth = omega arith in (
@@ -124,7 +123,7 @@ module _ (s : List ℕ) (at : ℕ) where
               ∙ ap Fault (omega (arith, length-drop (i + 1) s)),
         )
 
-    pub spans : i < length s → get_or s i 0 ≡ 58 → v < length s - i → length s < 9223372036854775808 → VerbatimAt s at (Spans (i + 1) (i + 1 + v))
+    pub spans : i < length s → get_or s i 0 ≡ 58 → v < length s - i → length s < 9223372036854775808 → VerbatimAt s at (Ok (i + 1, i + 1 + v))
     spans h e l b =
         let k = r.digits.clipped in
         let a = r.digits.after in
@@ -147,9 +146,9 @@ module _ (s : List ℕ) (at : ℕ) where
 bracket-known : (hints : Bool) (c : ℕ) → hints && eqb c 91 ≡ false → hints ≡ true → c ≡ 91 → ⊥
 bracket-known hints c n h e = false≢true (sym n ∙ ap (λ (b : Bool). b && eqb c 91) h ∙ eq-eqb c 91 e)
 
-text-bare : (hints : Bool) (s : List ℕ) (at : ℕ) (r : Reading) → at < length s → hints && eqb (get_or s at 0) 91 ≡ false → VerbatimAt s at r → TextAt hints s at r
-text-bare hints s at (Spans from to) l n (a, (bs, e, w)) = (a, (none, bs, tt, e, w))
-text-bare hints s at (Stuck o) l n (m, t) = (
+text-bare : (hints : Bool) (s : List ℕ) (at : ℕ) (r : Result (ℕ × ℕ) ℕ) → at < length s → hints && eqb (get_or s at 0) 91 ≡ false → VerbatimAt s at r → TextAt hints s at r
+text-bare hints s at (Ok (from, to)) l n (a, (bs, e, w)) = (a, (none, bs, tt, e, w))
+text-bare hints s at (Err o) l n (m, t) = (
   λ h bs rest y e. go h bs rest y e,
   λ d x limit v. at-due-string hints limit s d at v l x n ∙ t hints (after d) limit v,
 )
@@ -159,11 +158,11 @@ text-bare hints s at (Stuck o) l n (m, t) = (
     go (some h) bs rest y e = bracket-known hints (get_or s at 0) n y (starts s at 91 (verbatim_onto h (93 ∷ verbatim_onto bs rest)) e).1.0
 
 -- hints are not read
-pub text-unread : (hints : Bool) (s : List ℕ) (at : ℕ) (r : Reading) → at < length s → hints ≡ false → VerbatimAt s at r → TextAt hints s at r
+pub text-unread : (hints : Bool) (s : List ℕ) (at : ℕ) (r : Result (ℕ × ℕ) ℕ) → at < length s → hints ≡ false → VerbatimAt s at r → TextAt hints s at r
 text-unread hints s at r l n = text-bare hints s at r l (ap (λ (b : Bool). b && eqb (get_or s at 0) 91) n)
 
 -- or there is none
-pub text-unhinted : (hints : Bool) (s : List ℕ) (at : ℕ) (r : Reading) → at < length s → (get_or s at 0 ≡ 91 → ⊥) → VerbatimAt s at r → TextAt hints s at r
+pub text-unhinted : (hints : Bool) (s : List ℕ) (at : ℕ) (r : Result (ℕ × ℕ) ℕ) → at < length s → (get_or s at 0 ≡ 91 → ⊥) → VerbatimAt s at r → TextAt hints s at r
 text-unhinted hints s at r l n = text-bare hints s at r l (no-bracket hints (get_or s at 0) n)
 
 -- a bracket, where hints are read
@@ -179,13 +178,13 @@ module _ (hints : Bool) (y : hints ≡ true) (s : List ℕ) (at : ℕ) (l : at <
   no_text n none bs rest y e = none-digit s at (ap is_digit c) bs rest e
   no_text n (some h) bs rest y e = n h bs rest (starts s at 91 (verbatim_onto h (93 ∷ verbatim_onto bs rest)) e).1.1
 
-  pub hint-stuck : (o : ℕ) → VerbatimAt s (at + 1) (Stuck o) → TextAt hints s at (Stuck o)
+  pub hint-stuck : (o : ℕ) → VerbatimAt s (at + 1) (Err o) → TextAt hints s at (Err o)
   hint-stuck o (n, t) = (
     no_text (λ h bs rest e. n h (93 ∷ verbatim_onto bs rest) e),
     λ d x limit v. scan-bracket d limit v ∙ t hints (shut d) limit v,
   )
 
-  module _ (from to : ℕ) (p : VerbatimAt s (at + 1) (Spans from to)) where
+  module _ (from to : ℕ) (p : VerbatimAt s (at + 1) (Ok (from, to))) where
     pub hint-inside : (at < to) × (to ≤ length s)
     hint-inside = let (a, (bs, e, w)) = p in (omega (arith, a, w.long), w.inside)
 
@@ -202,22 +201,22 @@ module _ (hints : Bool) (y : hints ≡ true) (s : List ℕ) (at : ℕ) (l : at <
     hint-once : (h k : List ℕ) → drop (at + 1) s ≡ verbatim_onto h k → drop to s ≡ k
     hint-once h k f = let (a, (bs, e, w)) = p in (verbatim-once bs h (drop to s) k (sym e ∙ f)).1
 
-    pub hint-end : length s ≤ to → TextAt hints s at (Stuck to)
+    pub hint-end : length s ≤ to → TextAt hints s at (Err to)
     unfolding ended
     hint-end x = (
       no_text (λ h bs rest e. let t = starts s to 93 (verbatim_onto bs rest) (hint-once h (93 ∷ verbatim_onto bs rest) e) in omega (arith, t.0, x)),
       λ d n limit v. scan-hint d limit v ∙ at-end hints limit s (owed (shut d) 0) to v x,
     )
 
-    pub hint-open : to < length s → (get_or s to 0 ≡ 93 → ⊥) → TextAt hints s at (Stuck to)
+    pub hint-open : to < length s → (get_or s to 0 ≡ 93 → ⊥) → TextAt hints s at (Err to)
     hint-open x g = (
       no_text (λ h bs rest e. g (starts s to 93 (verbatim_onto bs rest) (hint-once h (93 ∷ verbatim_onto bs rest) e)).1.0),
       λ d n limit v. scan-hint d limit v ∙ at_none hints limit s (owed (shut d) 0) to v x (hint-none hints d (get_or s to 0) g),
     )
 
-    pub hint-text : (r : Reading) → to < length s → get_or s to 0 ≡ 93 → VerbatimAt s (to + 1) r → TextAt hints s at r
+    pub hint-text : (r : Result (ℕ × ℕ) ℕ) → to < length s → get_or s to 0 ≡ 93 → VerbatimAt s (to + 1) r → TextAt hints s at r
     unfolding note
-    hint-text (Spans from' to') x g (a, (bs, e, w)) =
+    hint-text (Ok (from', to')) x g (a, (bs, e, w)) =
         let (b, (h, f, u)) = p in (
           omega (arith, hint-inside),
           (
@@ -231,7 +230,7 @@ module _ (hints : Bool) (y : hints ≡ true) (s : List ℕ) (at : ℕ) (l : at <
             w,
           ),
         )
-    hint-text (Stuck o) x g (n, t) = (
+    hint-text (Err o) x g (n, t) = (
       no_text (λ h bs rest e. n bs rest (starts s to 93 (verbatim_onto bs rest) (hint-once h (93 ∷ verbatim_onto bs rest) e)).1.1),
       λ d m limit v.
           scan-hint d limit v

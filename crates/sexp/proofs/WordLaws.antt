@@ -1,12 +1,12 @@
 -- Numbers of one to three digits: which strings they are, and what they say. From document 01, "A number has one to three digits and no leading zero, save 0".
-use Prim.Native.Nat.{ℕ, zero, suc, ◌+◌, ◌*◌, ◌-◌, ◌/◌, ◌%◌, ◌≤◌, ◌<◌}
-use mathlib.Core.Path.{◌≡◌, refl, sym, ◌∙◌, ap, ap₂}
+use Prim.Native.Nat.{ℕ, ◌+◌, ◌*◌, ◌-◌, ◌/◌, ◌%◌, ◌≤◌, ◌<◌}
+use mathlib.Core.Path.{◌≡◌, refl, sym, ◌∙◌, ap}
 use mathlib.Core.Bool.{Bool, true, false, ◌&&◌, not, false≢true}
 use mathlib.Core.List.{List, [], ◌∷◌}
 use native.Mathlib.Omega.{arith}
 use lib.Dec.{ltb, leb, eqb}
 use lib.ListN.{length}
-use borrow.Author.Tests.{ltb-true, ltb-false, leb-true, le-leb, eqb-false, ne_eqb, not-true}
+use borrow.Author.Tests.{ltb-true, ltb-false, leb-true, eqb-false, ne_eqb, not-true}
 use Rattle.basics.specs.Choice.{both_true}
 use Rattle.sexp.specs.Decimal.{decimal_onto, decimal, is_digit}
 use Rattle.sexp.specs.Words.{every, no_leading_zero, is_number, worth_after, worth}

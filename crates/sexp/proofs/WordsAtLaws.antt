@@ -6,8 +6,7 @@ use mathlib.Core.List.{List}
 use native.Mathlib.Omega.{arith}
 use lib.ListN.{take, drop}
 use Rattle.basics.specs.Tells.{Tells, tells_as}
-use Rattle.sexp.specs.declared.words.Value.{Value}
-use Rattle.sexp.specs.declared.words.Value.TheVariants.{Is, Nothing}
+use Rattle.std.specs.Prelude.{Option, Some, None}
 use Rattle.sexp.specs.Decimal.{decimal}
 use Rattle.sexp.specs.Sexp.{str, Stands}
 use Rattle.sexp.specs.Strings.{Plain}
@@ -46,9 +45,9 @@ module _ (s : List ℕ) (at b n : ℕ) (p : Plain s at b n) where
       (λ h. sym (ap is_name (here h.stands)) ∙ h.name)
       (test-tells (is_name part) r e)
 
-  pub number-told : (r : Value) → NumeralOf part r → NumberAt s at r
-  number-told (Is v) (f, e) = record { octets = part; stands = stands; number = f; says = e }
-  number-told Nothing f = λ w h e. f (sym (ap is_number (here h)) ∙ e)
+  pub number-told : (r : Option ℕ) → NumeralOf part r → NumberAt s at r
+  number-told (Some v) (f, e) = record { octets = part; stands = stands; number = f; says = e }
+  number-told None f = λ w h e. f (sym (ap is_number (here h)) ∙ e)
 
   pub shared-told : (t : List ℕ) (j : ℕ) (r : Bool) → Tells r (Stands t j (str part)) → Tells r (Shared t j s at)
   shared-told t j r =
@@ -57,11 +56,11 @@ module _ (s : List ℕ) (at b n : ℕ) (p : Plain s at b n) where
       (λ h. subst (λ (w : List ℕ). Stands t j (str w)) (here h.there) h.here)
 
 -- where the answer is known
-pub number_is : {s : List ℕ} {at n : ℕ} {r : Value} → r ≡ Is n → NumberAt s at r → Numeral s at n
-number_is {s} {at} e h = subst (λ (x : Value). NumberAt s at x) e h
+pub number_is : {s : List ℕ} {at n : ℕ} {r : Option ℕ} → r ≡ Some n → NumberAt s at r → Numeral s at n
+number_is {s} {at} e h = subst (λ (x : Option ℕ). NumberAt s at x) e h
 
-pub number-nothing : {s : List ℕ} {at : ℕ} {r : Value} → r ≡ Nothing → NumberAt s at r → (w : List ℕ) → Stands s at (str w) → is_number w ≡ true → ⊥
-number-nothing {s} {at} e h = subst (λ (x : Value). NumberAt s at x) e h
+pub number-nothing : {s : List ℕ} {at : ℕ} {r : Option ℕ} → r ≡ None → NumberAt s at r → (w : List ℕ) → Stands s at (str w) → is_number w ≡ true → ⊥
+number-nothing {s} {at} e h = subst (λ (x : Option ℕ). NumberAt s at x) e h
 
 -- a number at an offset is the digits of what it says, which is at most 999; and such digits are a number
 pub numeral-stands : {s : List ℕ} {at n : ℕ} → Numeral s at n → (n ≤ 999) × Stands s at (str (decimal n))
@@ -75,14 +74,14 @@ pub stands-numeral : {s : List ℕ} {at n : ℕ} → n ≤ 999 → Stands s at (
 stands-numeral {n} l h = record { octets = decimal n; stands = h; number = decimal-is n l; says = sym (worth-decimal n) }
 
 -- one answer for every input
-pub number-answer : (s : List ℕ) (at : ℕ) (r r' : Value) → NumberAt s at r → NumberAt s at r' → r ≡ r'
-number-answer s at (Is n) (Is m) h g = ap Is (h.says ∙ ap worth (string-once h.stands g.stands) ∙ sym g.says)
-number-answer s at (Is n) Nothing h g = absurd (g h.octets h.stands h.number)
-number-answer s at Nothing (Is m) h g = absurd (h g.octets g.stands g.number)
-number-answer s at Nothing Nothing h g = refl
+pub number-answer : (s : List ℕ) (at : ℕ) (r r' : Option ℕ) → NumberAt s at r → NumberAt s at r' → r ≡ r'
+number-answer s at (Some n) (Some m) h g = ap Some (h.says ∙ ap worth (string-once h.stands g.stands) ∙ sym g.says)
+number-answer s at (Some n) None h g = absurd (g h.octets h.stands h.number)
+number-answer s at None (Some m) h g = absurd (h g.octets g.stands g.number)
+number-answer s at None None h g = refl
 
-pub numeral-answer : (w : List ℕ) (r r' : Value) → NumeralOf w r → NumeralOf w r' → r ≡ r'
-numeral-answer w (Is n) (Is m) h g = ap Is (h.1 ∙ sym g.1)
-numeral-answer w (Is n) Nothing h g = absurd (g h.0)
-numeral-answer w Nothing (Is m) h g = absurd (h g.0)
-numeral-answer w Nothing Nothing h g = refl
+pub numeral-answer : (w : List ℕ) (r r' : Option ℕ) → NumeralOf w r → NumeralOf w r' → r ≡ r'
+numeral-answer w (Some n) (Some m) h g = ap Some (h.1 ∙ sym g.1)
+numeral-answer w (Some n) None h g = absurd (g h.0)
+numeral-answer w None (Some m) h g = absurd (h g.0)
+numeral-answer w None None h g = refl

@@ -1,8 +1,5 @@
 -- What is said of the words, names and numbers among the plain strings at an offset of any bytes (document 01, "The carrier and the words").
-use Rattle.std.specs.Prelude.{ℕ, ◌+◌, ◌-◌, ◌≡◌, true, List, get_or}
-use Rattle.sexp.specs.declared.words.Value.{Value}
-use Rattle.sexp.specs.declared.words.Value.TheVariants.{Is, Nothing}
-use Rattle.sexp.specs.Decimal.{is_digit}
+use Rattle.std.specs.Prelude.{ℕ, ◌+◌, ◌≡◌, true, List, Option, Some, None}
 use Rattle.sexp.specs.Sexp.{str, Stands}
 use Rattle.sexp.specs.Strings.{Plain}
 use Rattle.sexp.specs.Words.{is_name, is_number, worth}
@@ -19,9 +16,10 @@ pub record Shared (s : List ℕ) (i : ℕ) (t : List ℕ) (j : ℕ) : Type 0 whe
   pub here : Stands s i (str octets)
   pub there : Stands t j (str octets)
 
--- a plain string whose length is one digit stands at an offset
-abbrev pub ShortAt : List ℕ → ℕ → Type 0
-ShortAt s at = (is_digit (get_or s at 0) ≡ true) × Plain s at (at + 2) (get_or s at 0 - 48)
+-- a plain string of n octets whose length is one digit stands at an offset, or nothing is said
+abbrev pub ShortAt : List ℕ → ℕ → Option ℕ → Type 0
+ShortAt s at (Some n) = Plain s at (at + 2) n
+ShortAt s at None = Unit {0}
 
 -- a number that says n stands at an offset
 pub record Numeral (s : List ℕ) (at n : ℕ) : Type 0 where
@@ -30,11 +28,11 @@ pub record Numeral (s : List ℕ) (at n : ℕ) : Type 0 where
   pub number : is_number octets ≡ true
   pub says : n ≡ worth octets
 
-abbrev pub NumberAt : List ℕ → ℕ → Value → Type 0
-NumberAt s at (Is n) = Numeral s at n
-NumberAt s at Nothing = (w : List ℕ) → Stands s at (str w) → is_number w ≡ true → ⊥
+abbrev pub NumberAt : List ℕ → ℕ → Option ℕ → Type 0
+NumberAt s at (Some n) = Numeral s at n
+NumberAt s at None = (w : List ℕ) → Stands s at (str w) → is_number w ≡ true → ⊥
 
 -- octets are a number that says n
-abbrev pub NumeralOf : List ℕ → Value → Type 0
-NumeralOf w (Is n) = (is_number w ≡ true) × (n ≡ worth w)
-NumeralOf w Nothing = is_number w ≡ true → ⊥
+abbrev pub NumeralOf : List ℕ → Option ℕ → Type 0
+NumeralOf w (Some n) = (is_number w ≡ true) × (n ≡ worth w)
+NumeralOf w None = is_number w ≡ true → ⊥

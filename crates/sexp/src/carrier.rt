@@ -2,8 +2,9 @@
 ghost use Rattle.std.specs.Prelude.{◌≡◌, ℕ, ◌≤◌, length, drop};
 ghost use Rattle.sexp.specs.Scan.{after, owed, hints_read, deeper, scan, carrier_of};
 
-use crate::text::{Reading, text};
+use crate::text::text;
 
+// Kept: three answers, and no Result: reading goes on after a list that is too deep, since a fault behind it comes first.
 #[derive(Clone, Copy)]
 pub enum Carrier {
     // One canonical expression, and no list lies deeper than the limit.
@@ -49,15 +50,16 @@ pub fn canonical(s: &[u8], limit: usize) -> Carrier
     let mut v = Carrier::Sound;
     let mut at = 0;
     let mut lists = 0;
+    // Kept: a string is jumped over by its length, so the offset runs over no range.
     while at < s.len() {
         let c = s[at];
-        if c == 40 {
+        if c == b'(' {
             v = deepen(v, lists, at, limit);
             lists += 1;
             at += 1;
             continue;
         }
-        if c == 41 {
+        if c == b')' {
             if lists == 0 {
                 return Carrier::Fault(at);
             }
@@ -69,10 +71,10 @@ pub fn canonical(s: &[u8], limit: usize) -> Carrier
             continue;
         }
         match text(s, at, HINTS_READ) {
-            Reading::Stuck(o) => {
+            Err(o) => {
                 return Carrier::Fault(o);
             }
-            Reading::Spans { to, .. } => {
+            Ok((_, to)) => {
                 if lists == 0 {
                     return finish(s, to, v);
                 }

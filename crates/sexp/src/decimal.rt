@@ -13,7 +13,7 @@ pub(crate) struct Num {
 pub(crate) fn digit(b: u8) -> bool
     ensures { result ≡ is_digit b }
 {
-    48 <= b && b <= 57
+    b.is_ascii_digit()
 }
 
 // One digit more.
@@ -21,12 +21,7 @@ fn grow(v: usize, b: u8) -> usize
     requires { (48 ≤ b) × (b ≤ 57) }
     ensures { result ≡ min (v * 10 + (b - 48)) largest }
 {
-    let d = (b - 48) as usize;
-    if v <= (0xffff_ffff_ffff_ffff - d) / 10 {
-        v * 10 + d
-    } else {
-        0xffff_ffff_ffff_ffff
-    }
+    v.saturating_mul(10).saturating_add((b - b'0') as usize)
 }
 
 // The number whose first digit is at `at`: 0 alone, or as many digits as follow.
@@ -34,9 +29,8 @@ pub(crate) fn number(s: &[u8], at: usize) -> Num
     requires { (at < length s.now) × (is_digit (get_or s.now at 0) ≡ true) }
     ensures { Number s.now at result.value result.next }
 {
-    let mut v = (s[at] - 48) as usize;
-    let mut i = at + 1;
-    while i < s.len() {
+    let mut v = (s[at] - b'0') as usize;
+    for i in at + 1..s.len() {
         if v == 0 {
             return Num { value: v, next: i };
         }
@@ -45,7 +39,9 @@ pub(crate) fn number(s: &[u8], at: usize) -> Num
             return Num { value: v, next: i };
         }
         v = grow(v, b);
-        i += 1;
     }
-    Num { value: v, next: i }
+    Num {
+        value: v,
+        next: s.len(),
+    }
 }

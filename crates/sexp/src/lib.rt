@@ -10,6 +10,6 @@ mod text;
 mod words;
 
 pub use carrier::{Carrier, canonical};
-pub use skip::{After, past};
-pub use strings::{Octets, byte, closes, opens, plain};
-pub use words::{Value, is_name, is_name_of, is_word, number, number_of, same, same_text};
+pub use skip::past;
+pub use strings::{byte, closes, opens, plain};
+pub use words::{is_name, is_name_of, is_word, number, number_of, same, same_text};

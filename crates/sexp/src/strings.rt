@@ -2,45 +2,38 @@
 ghost use Rattle.std.specs.Prelude.{◌≡◌, eqb, get_or};
 ghost use Rattle.sexp.specs.Strings.{PlainAt};
 
-use crate::text::{Reading, verbatim};
-
-// The octets of a plain string: so many from an offset on.
-#[derive(Clone, Copy)]
-pub enum Octets {
-    Span(usize, usize),
-    Nothing,
-}
+use crate::text::verbatim;
 
 // The byte at an offset; past the end, 0.
 pub fn byte(s: &[u8], at: usize) -> u8
     ensures { result ≡ get_or s.now at 0 }
 {
-    if at < s.len() { s[at] } else { 0 }
+    s.get(at).copied().unwrap_or(0)
 }
 
 // Whether a list opens at an offset.
 pub fn opens(s: &[u8], at: usize) -> bool
     ensures { result ≡ eqb (get_or s.now at 0) 40 }
 {
-    byte(s, at) == 40
+    byte(s, at) == b'('
 }
 
 // Whether a list closes at an offset.
 pub fn closes(s: &[u8], at: usize) -> bool
     ensures { result ≡ eqb (get_or s.now at 0) 41 }
 {
-    byte(s, at) == 41
+    byte(s, at) == b')'
 }
 
-// The plain string at an offset: its length, a colon, and that many octets.
-pub fn plain(s: &[u8], at: usize) -> Octets
+// The plain string at an offset: its length, a colon, and that many octets. The answer is where the octets lie, and how many they are.
+pub fn plain(s: &[u8], at: usize) -> Option<(usize, usize)>
     ensures { PlainAt s.now at result }
 {
     if s.len() < at {
-        return Octets::Nothing;
+        return None;
     }
-    match verbatim(s, at) {
-        Reading::Stuck(_) => Octets::Nothing,
-        Reading::Spans { from, to } => Octets::Span(from, to - from),
-    }
+    let Ok((from, to)) = verbatim(s, at) else {
+        return None;
+    };
+    Some((from, to - from))
 }

@@ -1,7 +1,7 @@
 -- The highest parameter of a candidate, read where the candidate stands: by how it begins, and term by term.
 use Prim.Native.Nat.{ℕ, ◌+◌, ◌-◌, ◌≤◌, ◌<◌, max}
 use mathlib.Core.Path.{◌≡◌, refl, sym, ◌∙◌, ap, subst}
-use mathlib.Core.Bool.{Bool, true, false, ◌&&◌}
+use mathlib.Core.Bool.{Bool, true, false, cond, ◌&&◌}
 use mathlib.Core.List.{List}
 use native.Mathlib.Omega.{arith}
 use lib.Dec.{eqb, leb}
@@ -14,10 +14,10 @@ use Rattle.harrop.specs.Formula.{Term, Terms}
 use Rattle.harrop.specs.Bindings.{highest, highests}
 use Rattle.packet.specs.Written.{term_sexp, term_sexps}
 use Rattle.packet.specs.Barred.{Holds, term_ok, terms_ok, parameter_ok}
-use Rattle.sexp.specs.declared.words.Value.{Value}
-use Rattle.sexp.specs.declared.words.Value.TheVariants as Val
-use Rattle.sexp.specs.declared.skip.After.{After}
-use Rattle.sexp.specs.declared.skip.After.TheVariants as A
+use Rattle.std.proofs.Common.{Ordering, Less, Equal, Greater, nat_cmp}
+use Rattle.std.specs.Ordering.{MatchOrdering, is_lt, ord_max}
+use Rattle.std.proofs.lemmas.Cmp.{ranked}
+use Rattle.std.specs.Prelude.{Option, Some, None, unwrap_or}
 use Rattle.sexp.specs.Sexp.{Sexp, str, spell, Stands, StandsAll, nesting, nestings}
 use Rattle.sexp.specs.Past.{Ends, PastAt}
 use Rattle.sexp.specs.WordsAt.{NumberAt}
@@ -34,11 +34,24 @@ use Rattle.equal.proofs.SeeLaws.{number_read, unread, no-f-e, parameter-small}
 use Rattle.equal.proofs.RestLaws.{past-on}
 
 -- the number after a word
-pub number-some : {s : List ℕ} {v : Value} {k : ℕ} → v ≡ Val.Is k → NumberAt s 4 v → NumberAfter s k
+pub number-some : {s : List ℕ} {v : Option ℕ} {k : ℕ} → v ≡ Some k → NumberAt s 4 v → NumberAfter s k
 number-some {v = v} e a i h l = let q = number_read i v h l a in cc
 
-pub number-none : {s : List ℕ} {v : Value} → v ≡ Val.Nothing → NumberAt s 4 v → NumberAfter s 0
+number-none : {s : List ℕ} {v : Option ℕ} → v ≡ None → NumberAt s 4 v → NumberAfter s 0
 number-none {v = v} e a i h l = absurd (unread (number_read i v h l a) e)
+
+pub number-told : {s : List ℕ} (v : Option ℕ) → NumberAt s 4 v → NumberAfter s (unwrap_or v 0)
+number-told (Some k) a = number-some refl a
+number-told None a = number-none refl a
+
+-- the larger of two numbers
+pub larger : (a b : ℕ) → ord_max nat_cmp a b ≡ max a b
+larger a b = go (nat_cmp b a) (ranked b a (nat_cmp b a) refl)
+  where
+    go : (o : Ordering) → MatchOrdering o (b < a) (b ≡ a) (a < b) → cond (is_lt o) a b ≡ max a b
+    go Less h = omega arith
+    go Equal h = omega arith
+    go Greater h = omega arith
 
 -- how a candidate begins
 module _ (s : List ℕ) (at : ℕ) {t : List ℕ} (p : t ≡ drop at s) where
@@ -53,7 +66,7 @@ module _ (s : List ℕ) (at : ℕ) {t : List ℕ} (p : t ≡ drop at s) where
       go (Term.f m ts) g o = absurd (no-f-e (text-once (term-word (Term.f m ts) g) (told-yes e h)))
       go (Term.e m) g o = n m (term-text (Term.e m) g) (parameter-small true m o)
 
-  pub begins-lost : {r : Bool} {a : After} → Tells r (Stands t 1 (str (octets "e"))) → r ≡ false → a ≡ A.Nothing → PastAt t 4 0 a → HeadAt s at (head.Parameter 0)
+  pub begins-lost : {r : Bool} {a : Option ℕ} → Tells r (Stands t 1 (str (octets "e"))) → r ≡ false → a ≡ None → PastAt t 4 0 a → HeadAt s at (head.Parameter 0)
   begins-lost h e z a u g o = go u (here u g) o
     where
       go : (u : Term) → Stands t 0 (term_sexp u) → term_ok true 0 u ≡ true → 0 ≡ highest u
@@ -61,7 +74,7 @@ module _ (s : List ℕ) (at : ℕ) {t : List ℕ} (p : t ≡ drop at s) where
       go (Term.f m ts) g o = absurd (past-nothing z a (str m) (term-text (Term.f m ts) g) (omega arith))
       go (Term.e m) g o = absurd (told-no e h (term-word (Term.e m) g))
 
-  pub begins-terms : {r : Bool} {a : After} {n : ℕ} → Tells r (Stands t 1 (str (octets "e"))) → r ≡ false → a ≡ A.Next n → PastAt t 4 0 a → HeadAt s at (head.Terms (at + n))
+  pub begins-terms : {r : Bool} {a : Option ℕ} {n : ℕ} → Tells r (Stands t 1 (str (octets "e"))) → r ≡ false → a ≡ Some n → PastAt t 4 0 a → HeadAt s at (head.Terms (at + n))
   begins-terms {n = n} h e z a u g o = go u (here u g) o
     where
       go : (u : Term) → Stands t 0 (term_sexp u) → term_ok true 0 u ≡ true → TermsOf s (at + n) u
@@ -78,7 +91,7 @@ module _ (s : List ℕ) (at : ℕ) {t : List ℕ} (p : t ≡ drop at s) where
           }
       go (Term.e m) g o = absurd (told-no e h (term-word (Term.e m) g))
 
-  pub begins-inside : {a : After} {n : ℕ} → a ≡ A.Next n → PastAt t 4 0 a → at + n ≤ length s
+  pub begins-inside : {a : Option ℕ} {n : ℕ} → a ≡ Some n → PastAt t 4 0 a → at + n ≤ length s
   begins-inside z a = let h = past-on t 4 0 z a in let l = ap length p ∙ length-drop at s in omega (arith, h)
 
 -- the highest parameter of a term
@@ -141,10 +154,10 @@ module _ (s : List ℕ) (at nest : ℕ) where
               let z = H u (first-stands h) a (omega arith) (omega arith) in
               record { one = u; others = us; here = first-stands h; there = others-stand h; ok = b; shallow = omega arith; less = omega arith; deep = omega arith; high = omega arith }
 
-      pub high-lost : {a : After} → a ≡ A.Nothing → PastAt s p 64 a → HighestsAt s at nest 0
+      pub high-lost : {a : Option ℕ} → a ≡ None → PastAt s p 64 a → HighestsAt s at nest 0
       high-lost z a ts h o l n = let F = firsts ts (L ts h o l n) in absurd (past-nothing z a (term_sexp F.one) F.here F.deep)
 
-      pub high-next : {a : After} {i : ℕ} (m' : ℕ) → m' ≡ max m q → a ≡ A.Next i → PastAt s p 64 a → HighLeft s at nest i m'
+      pub high-next : {a : Option ℕ} {i : ℕ} (m' : ℕ) → m' ≡ max m q → a ≡ Some i → PastAt s p 64 a → HighLeft s at nest i m'
       high-next {i = i} m' y z a ts h o l n =
           let F = firsts ts (L ts h o l n) in
           let E = past_next z a in

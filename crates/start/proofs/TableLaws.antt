@@ -18,8 +18,8 @@ use Rattle.harrop.proofs.ListLaws.{member_below, below-member, beyond-none}
 use Rattle.packet.specs.Written.{word, each, term_sexp, clause_sexp, rules_sexp, terms_sexp}
 use Rattle.packet.specs.Barred.{term_ok}
 use Rattle.packet.specs.File.{most_bytes}
-use Rattle.sexp.specs.declared.skip.After.{After}
-use Rattle.sexp.specs.declared.skip.After.TheVariants as A
+use Rattle.std.specs.Prelude as std
+use Rattle.std.specs.Prelude.{Some, None}
 use Rattle.sexp.specs.Decimal.{decimal_onto}
 use Rattle.sexp.specs.Sexp.{Sexp, Sexps, str, list, nil, cons, spell, Stands, StandsAll, nesting, nestings}
 use Rattle.sexp.specs.Past.{Ends, PastAt}
@@ -103,7 +103,7 @@ module _ (before s : List ℕ) (at base : ℕ) where
     }
 
     -- no further member stands there
-    pub filling-end : {a : After} → a ≡ A.Nothing → PastAt s p 64 a → StartsIn before now s at base k
+    pub filling-end : {a : std.Option ℕ} → a ≡ None → PastAt s p 64 a → StartsIn before now s at base k
     filling-end z a = answer all
       where
         all : (xs : Sexps) → Asked before s at base xs → k ≡ members xs
@@ -118,7 +118,7 @@ module _ (before s : List ℕ) (at base : ℕ) where
     filling-full h = answer λ xs q. omega (arith, (F.left xs q).count, q.few, F.few)
 
     -- one member more
-    pub filling-next : {after : List ℕ} {a : After} {n : ℕ} (w : ℕ) → a ≡ A.Next n → PastAt s p 64 a → k < 256 → w ≡ held p → after ≡ set now (base + k) w → Filling before after s at base (k + 1) n
+    pub filling-next : {after : List ℕ} {a : std.Option ℕ} {n : ℕ} (w : ℕ) → a ≡ Some n → PastAt s p 64 a → k < 256 → w ≡ held p → after ≡ set now (base + k) w → Filling before after s at base (k + 1) n
     filling-next {after} {a} {n} w z b l e f = subst (λ (r : List ℕ). Filling before r s at base (k + 1) n) (sym f) (record {
       few = omega arith;
       long = length-set now (base + k) w ∙ F.long;

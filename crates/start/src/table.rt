@@ -1,11 +1,12 @@
 // The tables of rules and candidates, filled from their files, and which candidates may be used (document 01, "When a strip fits").
-ghost use Rattle.std.specs.Prelude.{◌≡◌, ◌&&◌, ◌+◌, ◌≤◌, max, ltb, leb, get_or};
+// Kept: the room comes with the word that a frame or a table begins or ends at, since the room is one memory that the caller lends, and which parts it has is the definition's (specs/Layout of crate `room`).
+ghost use Rattle.std.specs.Prelude.{◌≡◌, ◌&&◌, ◌+◌, ◌≤◌, ltb, leb, get_or};
 ghost use Rattle.room.specs.Layout.{candidates_word, highest_word};
 ghost use Rattle.room.specs.Table.{StartsIn, HighestAt, HighestsAt, RulesFilled, CandidatesFilled};
 ghost use Rattle.start.specs.Head.{NumberAfter, HeadAt, HighestIn};
 
 use room::{from, hold, put, word, word_after};
-use sexp::{After, Value, closes, is_word, number, past};
+use sexp::{closes, is_word, number, past};
 
 // Where the members of a list that stand from an offset on start, in the words from a base on: at most 256 of them. The answer is their number.
 fn starts(s: &[u8], at: usize, room: &mut [u32], base: usize) -> usize
@@ -13,19 +14,18 @@ fn starts(s: &[u8], at: usize, room: &mut [u32], base: usize) -> usize
     ensures { StartsIn room.old room.new s.now at base result }
 {
     let mut p = at;
-    let mut k: usize = 0;
-    while k < 256 {
-        let After::Next(n) = past(s, p, 64) else {
+    for k in 0..256 {
+        let Some(n) = past(s, p, 64) else {
             return k;
         };
         put(room, base + k, hold(p));
         p = n;
-        k += 1;
     }
-    k
+    256
 }
 
 // How a term begins: with a parameter, or a function whose terms start at an offset.
+// Kept: either kind is an answer with a value, and none of them a failure.
 #[derive(Clone, Copy)]
 pub(crate) enum Head {
     Parameter(usize),
@@ -36,10 +36,7 @@ pub(crate) enum Head {
 fn number_after(s: &[u8]) -> usize
     ensures { NumberAfter s.now result }
 {
-    match number(s, 4) {
-        Value::Nothing => 0,
-        Value::Is(k) => k,
-    }
+    number(s, 4).unwrap_or(0)
 }
 
 fn begins(s: &[u8], at: usize) -> Head
@@ -50,19 +47,13 @@ fn begins(s: &[u8], at: usize) -> Head
         return Head::Parameter(number_after(t));
     }
     match past(t, 4, 0) {
-        After::Nothing => Head::Parameter(0),
-        After::Next(n) => Head::Terms(at + n),
+        None => Head::Parameter(0),
+        Some(n) => Head::Terms(at + n),
     }
 }
 
-fn larger(a: usize, b: usize) -> usize
-    ensures { result ≡ max a b }
-{
-    if a <= b { b } else { a }
-}
-
 // The highest parameter of the term at an offset that nests at most `nest`.
-#[cycle(highest_highest_of)]
+#[cycle(highest)]
 fn highest(s: &[u8], at: usize, nest: usize) -> usize
     ensures { HighestAt s.now at nest result }
 {
@@ -76,15 +67,15 @@ fn highest(s: &[u8], at: usize, nest: usize) -> usize
 }
 
 // The highest of terms one after the other, up to the closing parenthesis.
-#[cycle(highest_highest_of)]
+#[cycle(highest)]
 fn highest_of(s: &[u8], at: usize, nest: usize) -> usize
     ensures { HighestsAt s.now at nest result }
 {
     let mut p = at;
     let mut m = 0;
     while !closes(s, p) {
-        m = larger(m, highest(s, p, nest));
-        let After::Next(n) = past(s, p, 64) else {
+        m = m.max(highest(s, p, nest));
+        let Some(n) = past(s, p, 64) else {
             return 0;
         };
         p = n;
@@ -97,15 +88,14 @@ fn highests(terms: &[u8], room: &mut [u32], count: usize)
     requires { count ≤ 256 }
     ensures { HighestIn room.old room.new terms.now count }
 {
-    let mut i = 0;
-    while i < count {
+    for i in 0..count {
         let at = word_after(room, 258, i) as usize;
         put(room, 514 + i, hold(highest(terms, at, 64)));
-        i += 1;
     }
 }
 
 // The table of rules: their number, and where each starts.
+// Kept: it goes by the rules' file and table, and `fill_candidates` notes highest parameters besides; what both do is `starts`.
 pub fn fill_rules(rules: &[u8], room: &mut [u32])
     ensures { RulesFilled room.old room.new rules.now }
 {
@@ -126,8 +116,5 @@ pub fn fill_candidates(terms: &[u8], room: &mut [u32])
 pub fn may_use(room: &[u32], open_parameters: usize, i: usize) -> bool
     ensures { result ≡ (ltb i (get_or room.now candidates_word 0) && leb (get_or room.now (highest_word i) 0) open_parameters) }
 {
-    if i < word(room, 257) as usize {
-        return word_after(room, 514, i) as usize <= open_parameters;
-    }
-    false
+    i < word(room, 257) as usize && word_after(room, 514, i) as usize <= open_parameters
 }

@@ -15,7 +15,8 @@ use Rattle.room.specs.Frame.{held, bindings_in, copied}
 use Rattle.room.specs.Spot.{source_number, source_of, bindings_at}
 use Rattle.room.specs.Table.{CandidatesIn}
 use Rattle.equal.specs.Term.{AtomAt}
-use Rattle.room.specs.Where.{Files, plus}
+use Rattle.room.specs.Where.{plus}
+use Rattle.room.specs.Files.{Files}
 use Rattle.room.specs.declared.Spot.{Spot}
 use Rattle.room.specs.declared.Where.{Where}
 use Rattle.room.proofs.FrameLaws.{frames-alike, word_kept, copied_is, copy-kept, copy-length, frame-copied}
@@ -195,11 +196,11 @@ module _ (room : List ℕ) (w : Where) (height at : ℕ) (fit : Fitting w.goal w
   entered-parameters = entered-word 4 (omega arith) ∙ omega (arith, fit.opened)
 
   -- an atom entered, of which nothing is known
-  entered-right : (f : Files) (us : List Term) (T : Truth) (C : Choice) (a : Atom) → AtomAt f.rules f.goal f.terms w.goal a → Right f us T C w.supposed (entered room w.goal w.supposed w.parameters at) at
+  entered-right : (f : Files) (us : List Term) (T : Truth) (C : Choice) (a : Atom) → AtomAt f w.goal a → Right f us T C w.supposed (entered room w.goal w.supposed w.parameters at) at
   entered-right f us T C a A = record {
     few = omega (arith, entered-count, fit.few);
     atom = a;
-    here = subst (λ (y : Spot). AtomAt f.rules f.goal f.terms y a) (sym entered-spot) (record { stands = A.stands; shallow = A.shallow; few = A.few; ok = A.ok });
+    here = subst (λ (y : Spot). AtomAt f y a) (sym entered-spot) (record { stands = A.stands; shallow = A.shallow; few = A.few; ok = A.ok });
     failed = λ h. let z = entered-word 5 (omega arith) in absurd (omega arith);
     proved = λ h. let z = entered-word 6 (omega arith) in absurd (omega arith);
     chosen = λ h. let z = entered-word 7 (omega arith) in absurd (omega arith);
@@ -222,7 +223,7 @@ module _ (room : List ℕ) (w : Where) (height at : ℕ) (fit : Fitting w.goal w
       record { long = o.long ∙ entered-length; below = λ i l. o.below i l ∙ entered_below i (omega arith) }
 
   -- a new entry, with what is true of it
-  new-good : {f : Files} {us : List Term} {T : Truth} {C : Choice} {m : ℕ} {after : List ℕ} {choice : ℕ} (found : Bool) (a : Atom) → at % 16 ≡ 0 → w.supposed ≤ m → Good f us T C m room → AtomAt f.rules f.goal f.terms w.goal a
+  new-good : {f : Files} {us : List Term} {T : Truth} {C : Choice} {m : ℕ} {after : List ℕ} {choice : ℕ} (found : Bool) (a : Atom) → at % 16 ≡ 0 → w.supposed ≤ m → Good f us T C m room → AtomAt f w.goal a
       → Notes (entered room w.goal w.supposed w.parameters at) after at height found choice w.top → choice ≤ 4294967295 → w.top + 8 ≤ table_word
       → T w.supposed w.parameters height (replaced_atom us (bindings_at room w.goal) a) ≡ found
       → (found ≡ true → 0 < choice → (n : ℕ) → C w.supposed w.parameters height (replaced_atom us (bindings_at room w.goal) a) (choice - 1) (words_in room w.top n))
@@ -247,7 +248,7 @@ module _ {f : Files} {before after : List ℕ} {w : Where} {height at choice : �
   keeps-only l (Keeps.new m i fit N) = new-only before w height at fit m i found N
 
   -- what is kept, where it is true: the table is right afterwards if it was before
-  pub keeps-good : {us : List Term} {T : Truth} {C : Choice} {m : ℕ} (a : Atom) → Keeps f before after w height at found choice → at % 16 ≡ 0 → w.supposed ≤ m → Good f us T C m before → CandidatesIn before f.terms us → AtomAt f.rules f.goal f.terms w.goal a → choice ≤ 4294967295 → w.top + 8 ≤ table_word
+  pub keeps-good : {us : List Term} {T : Truth} {C : Choice} {m : ℕ} (a : Atom) → Keeps f before after w height at found choice → at % 16 ≡ 0 → w.supposed ≤ m → Good f us T C m before → CandidatesIn before f.terms us → AtomAt f w.goal a → choice ≤ 4294967295 → w.top + 8 ≤ table_word
       → T w.supposed w.parameters height (replaced_atom us (bindings_at before w.goal) a) ≡ found
       → (found ≡ true → 0 < choice → (n : ℕ) → C w.supposed w.parameters height (replaced_atom us (bindings_at before w.goal) a) (choice - 1) (words_in before w.top n))
       → Good f us T C m after

@@ -10,7 +10,7 @@ use lib.Seq.{get_or-set_same, get_or-set_other}
 use borrow.Author.Tests.{eqb-true, eqb-false, eq-eqb, ne_eqb}
 use Rattle.basics.specs.Choice.{choose}
 use Rattle.harrop.specs.Formula.{Term, Atom}
-use Rattle.room.specs.Where.{Files}
+use Rattle.room.specs.Files.{Files}
 use Rattle.table.specs.Slots.{table_word, Slot, mark_of, emptied}
 use Rattle.table.specs.Good.{Truth, Choice, Right, Good}
 use Rattle.table.specs.Recall.{TableOnly, Forgets, Empty}

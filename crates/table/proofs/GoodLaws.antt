@@ -14,15 +14,14 @@ use Rattle.room.specs.Frame.{bindings_in}
 use Rattle.room.specs.Spot.{source_of, bindings_at}
 use Rattle.room.specs.Table.{CandidatesIn}
 use Rattle.equal.specs.Term.{AtomAt, SameAtoms}
-use Rattle.room.specs.Where.{Files}
+use Rattle.room.specs.Files.{Files}
 use Rattle.room.specs.declared.Spot.{Spot}
 use Rattle.room.specs.declared.Where.{Where}
 use Rattle.room.proofs.FrameLaws.{frames-alike}
 use Rattle.room.proofs.FileLaws.{spot-alike}
+use Rattle.std.specs.Prelude.{Option, Some, None}
 use Rattle.table.specs.Slots.{table_word, Slot, slot_spot, count_of, mark_of, parameters_of, failed_at, proved_at, choice_at, numbers_of, numbers_word, words_in}
 use Rattle.table.specs.Good.{Truth, Rises, Choice, Right, Good}
-use Rattle.table.specs.declared.Recalled.{Recalled}
-use Rattle.table.specs.declared.Recalled.TheVariants.{Unknown, No, Yes}
 use Rattle.table.specs.Recall.{This, IsThis, Says, Recalls, Chose, Empty}
 
 -- words that are the same
@@ -71,7 +70,7 @@ module _ {f : Files} {us : List Term} {T : Truth} {C : Choice} {s : ℕ} {room :
       record {
         few = omega (arith, c, R.few);
         atom = R.atom;
-        here = subst (λ (y : Spot). AtomAt f.rules f.goal f.terms y R.atom) (sym (entry-spot room after at e)) R.here;
+        here = subst (λ (y : Spot). AtomAt f y R.atom) (sym (entry-spot room after at e)) R.here;
         failed = λ h. ap (λ (q : ℕ). T s q (failed_at after at) (replaced_atom us (bindings_at after (slot_spot after at)) R.atom)) p ∙ ap (T s (parameters_of room at) (failed_at after at)) x ∙ no' h;
         proved = λ h. ap (λ (q : ℕ). T s q (proved_at after at) (replaced_atom us (bindings_at after (slot_spot after at)) R.atom)) p ∙ ap (T s (parameters_of room at) (proved_at after at)) x ∙ yes' h;
         chosen = λ h.
@@ -140,7 +139,7 @@ module _ {f : Files} {room : List ℕ} {w : Where} {at : ℕ} (t : This f room w
   pub this-slot : at % 16 ≡ 0 → Slot (length room) at
   this-slot e = record { first = t.first; step = e; inside = t.inside }
 
-  module _ {us : List Term} {T : Truth} {C : Choice} (a : Atom) (R : Right f us T C w.supposed room at) (us-in : CandidatesIn room f.terms us) (A : AtomAt f.rules f.goal f.terms w.goal a) where
+  module _ {us : List Term} {T : Truth} {C : Choice} (a : Atom) (R : Right f us T C w.supposed room at) (us-in : CandidatesIn room f.terms us) (A : AtomAt f w.goal a) where
     -- the atoms compared are equal, variables replaced
     pub this-atom : replaced_atom us (bindings_at room (slot_spot room at)) R.atom ≡ replaced_atom us (bindings_at room w.goal) a
     this-atom =
@@ -161,13 +160,13 @@ module _ {f : Files} {room : List ℕ} {w : Where} {at : ℕ} (t : This f room w
 
 -- a slot's words and its spot, as the code has found them
 pub this-is : (f : Files) (room : List ℕ) (w : Where) (at : ℕ) {r b : Bool} {y : Spot} {n p : ℕ} → (table_word ≤ at) × (at + 16 ≤ length room) → n ≡ mark_of room at → b ≡ eqb n (w.supposed + 1) → b ≡ true → p ≡ parameters_of room at → p ≡ w.parameters
-    → (at + 16 ≤ length room → y ≡ slot_spot room at) → SameAtoms f.rules f.goal f.terms room y w.goal r → IsThis f room w at r
+    → (at + 16 ≤ length room → y ≡ slot_spot room at) → SameAtoms f room y w.goal r → IsThis f room w at r
 this-is f room w at {r} {b} {y} {n} {p} l m t e q z h S yes' = record {
   first = l.0;
   inside = l.1;
   supposed = sym m ∙ eqb-true n (w.supposed + 1) (sym t ∙ e);
   parameters = sym q ∙ z;
-  same = subst (λ (x : Spot). SameAtoms f.rules f.goal f.terms room x w.goal true) (h l.1) (subst (λ (x : Bool). SameAtoms f.rules f.goal f.terms room y w.goal x) yes' S);
+  same = subst (λ (x : Spot). SameAtoms f room x w.goal true) (h l.1) (subst (λ (x : Bool). SameAtoms f room y w.goal x) yes' S);
 }
 
 -- what fails within a height fails within a smaller one
@@ -178,22 +177,21 @@ falls T s p h h' a up e l = go (T s p h a) refl
     go true q = absurd (false≢true (sym e ∙ up s p h h' a q l))
     go false q = q
 
-module _ (f : Files) (room : List ℕ) (w : Where) (height at : ℕ) {us : List Term} {T : Truth} {C : Choice} (a : Atom) (step : at % 16 ≡ 0) (g : Good f us T C w.supposed room) (us-in : CandidatesIn room f.terms us) (A : AtomAt f.rules f.goal f.terms w.goal a) where
+module _ (f : Files) (room : List ℕ) (w : Where) (height at : ℕ) {us : List Term} {T : Truth} {C : Choice} (a : Atom) (step : at % 16 ≡ 0) (g : Good f us T C w.supposed room) (us-in : CandidatesIn room f.terms us) (A : AtomAt f w.goal a) where
   -- what is recalled is true: a failure at most up to its height, a success from its height on
-  pub recalls-so : (r : Recalled) → Rises T → Recalls f room w height at r → Says (T w.supposed w.parameters height (replaced_atom us (bindings_at room w.goal) a)) r
-  recalls-so Unknown up h = tt
-  recalls-so No up (t, n, l) =
+  pub recalls-so : (r : Option Bool) → Rises T → Recalls f room w height at r → Says (T w.supposed w.parameters height (replaced_atom us (bindings_at room w.goal) a)) r
+  recalls-so None up h = tt
+  recalls-so (Some false) up (t, n, l) =
       let R = g at w.supposed (this-slot t step) t.supposed (omega arith) in
       falls T w.supposed w.parameters height (failed_at room at) (replaced_atom us (bindings_at room w.goal) a) up
       (sym (this-true t a R us-in A (failed_at room at)) ∙ R.failed (omega arith)) l
-  recalls-so Yes up (t, n, l) =
+  recalls-so (Some true) up (t, n, l) =
       let R = g at w.supposed (this-slot t step) t.supposed (omega arith) in
       up w.supposed w.parameters (proved_at room at) height (replaced_atom us (bindings_at room w.goal) a)
       (sym (this-true t a R us-in A (proved_at room at)) ∙ R.proved (omega arith)) l
 
   -- and so is the choice
-  pub chosen-so : (r : ℕ) → 0 < r → Chose f room w height at r → C w.supposed w.parameters height (replaced_atom us (bindings_at room w.goal) a) (r - 1) (words_in room (numbers_word room at) (numbers_of room at))
-  chosen-so r n h =
-      let (t, e, q) = h n in
+  pub chosen-so : (k : ℕ) → Chose f room w height at (Some k) → C w.supposed w.parameters height (replaced_atom us (bindings_at room w.goal) a) k (words_in room (numbers_word room at) (numbers_of room at))
+  chosen-so k (t, e, q) =
       let R = g at w.supposed (this-slot t step) t.supposed (omega arith) in
-      choice-same C w.supposed w.parameters (replaced_atom us (bindings_at room w.goal) a) e (ap (λ (k : ℕ). k - 1) q) refl (this-choice t a R us-in A (R.chosen (omega arith)))
+      choice-same C w.supposed w.parameters (replaced_atom us (bindings_at room w.goal) a) e (omega (arith, q)) refl (this-choice t a R us-in A (R.chosen (omega arith)))

@@ -24,19 +24,6 @@ slot-fits n key h =
     let z : key % ((n - 5376) / 16) < (n - 5376) / 16 = mod-lt key some in
     omega arith
 
-pub outside_low : (n at : ℕ) → at < 5376 → false ≡ (leb table_word at && leb (at + 16) n)
-outside_low n at h = rw (lt-leb table_word at h) refl
-
-pub outside_high : (n at : ℕ) → 5376 ≤ at → n < at + 16 → false ≡ (leb table_word at && leb (at + 16) n)
-outside_high n at l h = rw (le-leb table_word at l, lt-leb (at + 16) n h) refl
-
-pub inside-some : (n at : ℕ) → 5376 ≤ at → 16 ≤ n → leb at (n - 16) ≡ (leb table_word at && leb (at + 16) n)
-inside-some n at l k = rw (le-leb table_word at l) (go (leb at (n - 16)) refl)
-  where
-    go : (t : Bool) → leb at (n - 16) ≡ t → t ≡ leb (at + 16) n
-    go true e = let z = leb-true at (n - 16) e in sym (le-leb (at + 16) n (omega arith))
-    go false e = let z = leb-false at (n - 16) e in sym (lt-leb (at + 16) n (omega arith))
-
 pub inside-bounds : (r : Bool) (n at : ℕ) → r ≡ (leb table_word at && leb (at + 16) n) → r ≡ true → (5376 ≤ at) × (at + 16 ≤ n)
 inside-bounds r n at e t =
     let (a, b) = both_true (leb table_word at) (leb (at + 16) n) (sym e ∙ t) in
@@ -44,13 +31,3 @@ inside-bounds r n at e t =
 
 pub inside-not : (r : Bool) (n at : ℕ) → r ≡ (leb table_word at && leb (at + 16) n) → r ≡ false → 5376 ≤ at → n < at + 16
 inside-not r n at e t l = leb-false (at + 16) n (rw (le-leb table_word at l) at (sym e ∙ t))
-
-pub marks-zero : (w n : ℕ) → w ≡ 0 → false ≡ eqb w (n + 1)
-marks-zero w n e = sym (ne_eqb w (n + 1) (λ h. omega arith))
-
-pub marks-some : (w n : ℕ) → (w ≡ 0 → ⊥) → eqb (w - 1) n ≡ eqb w (n + 1)
-marks-some w n z = go (eqb (w - 1) n) refl
-  where
-    go : (t : Bool) → eqb (w - 1) n ≡ t → t ≡ eqb w (n + 1)
-    go true e = let h = eqb-true (w - 1) n e in sym (eq-eqb w (n + 1) (omega arith))
-    go false e = let h = eqb-false (w - 1) n e in sym (ne_eqb w (n + 1) (λ q. h (omega arith)))

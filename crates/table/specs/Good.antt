@@ -6,7 +6,7 @@ use Rattle.harrop.specs.Formula.{Term, Atom}
 use Rattle.harrop.specs.Bindings.{replaced_atom}
 use Rattle.room.specs.Spot.{bindings_at}
 use Rattle.equal.specs.Term.{AtomAt}
-use Rattle.room.specs.Where.{Files}
+use Rattle.room.specs.Files.{Files}
 use Rattle.table.specs.Slots.{Slot, slot_spot, count_of, mark_of, parameters_of, failed_at, proved_at, choice_at, numbers_of, numbers_word, words_in}
 
 -- what is true of atoms: by the supposed clauses, the open parameters and the height
@@ -25,7 +25,7 @@ Choice = ℕ → ℕ → ℕ → Atom → ℕ → List ℕ → Type 0
 pub record Right (f : Files) (us : List Term) (T : Truth) (C : Choice) (s : ℕ) (room : List ℕ) (at : ℕ) : Type 0 where
   pub few : count_of room at ≤ 8
   pub atom : Atom
-  pub here : AtomAt f.rules f.goal f.terms (slot_spot room at) atom
+  pub here : AtomAt f (slot_spot room at) atom
   pub failed : 0 < failed_at room at → T s (parameters_of room at) (failed_at room at) (replaced_atom us (bindings_at room (slot_spot room at)) atom) ≡ false
   pub proved : 0 < proved_at room at → T s (parameters_of room at) (proved_at room at) (replaced_atom us (bindings_at room (slot_spot room at)) atom) ≡ true
   pub chosen : 0 < choice_at room at → C s (parameters_of room at) (proved_at room at) (replaced_atom us (bindings_at room (slot_spot room at)) atom) (choice_at room at - 1) (words_in room (numbers_word room at) (numbers_of room at))

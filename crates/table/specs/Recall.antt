@@ -1,11 +1,9 @@
 -- What is recalled from the table, and what keeping and forgetting do to it (document 02, Three). An entry is believed only after its atom was compared with the one asked for, variables replaced.
-use Rattle.std.specs.Prelude.{ℕ, suc, ◌+◌, ◌%◌, ◌≤◌, ◌<◌, ◌≡◌, Bool, true, false, List, length, get_or}
+use Rattle.std.specs.Prelude.{ℕ, suc, ◌+◌, ◌%◌, ◌≤◌, ◌<◌, ◌≡◌, Bool, true, false, Option, Some, None, List, length, get_or}
 use Rattle.equal.specs.Term.{SameAtoms}
-use Rattle.room.specs.Where.{Files}
+use Rattle.room.specs.Files.{Files}
 use Rattle.room.specs.declared.Spot.{Spot}
 use Rattle.room.specs.declared.Where.{Where}
-use Rattle.table.specs.declared.Recalled.{Recalled}
-use Rattle.table.specs.declared.Recalled.TheVariants.{Unknown, No, Yes}
 use Rattle.table.specs.Slots.{table_word, Slot, slot_spot, mark_of, parameters_of, failed_at, proved_at, choice_at, entered, Notes}
 
 -- a slot of the table has the atom of a place, with its supposed clauses and parameters
@@ -14,26 +12,26 @@ pub record This (f : Files) (room : List ℕ) (w : Where) (at : ℕ) : Type 0 wh
   pub inside : at + 16 ≤ length room
   pub supposed : mark_of room at ≡ w.supposed + 1
   pub parameters : parameters_of room at ≡ w.parameters
-  pub same : SameAtoms f.rules f.goal f.terms room (slot_spot room at) w.goal true
+  pub same : SameAtoms f room (slot_spot room at) w.goal true
 
 abbrev pub IsThis : Files → List ℕ → Where → ℕ → Bool → Type 0
 IsThis f room w at r = r ≡ true → This f room w at
 
 -- what is recalled is true
-abbrev pub Says : Bool → Recalled → Type 0
-Says b Unknown = Unit {0}
-Says b No = b ≡ false
-Says b Yes = b ≡ true
+abbrev pub Says : Bool → Option Bool → Type 0
+Says b None = Unit {0}
+Says b (Some told) = b ≡ told
 
 -- what a slot says of the atom of a place, if it has it: that it failed at this height or a greater, or that it is proved at this height or a smaller
-abbrev pub Recalls : Files → List ℕ → Where → ℕ → ℕ → Recalled → Type 0
-Recalls f room w height at Unknown = Unit {0}
-Recalls f room w height at No = This f room w at × (0 < height) × (height ≤ failed_at room at)
-Recalls f room w height at Yes = This f room w at × (0 < proved_at room at) × (proved_at room at ≤ height)
+abbrev pub Recalls : Files → List ℕ → Where → ℕ → ℕ → Option Bool → Type 0
+Recalls f room w height at None = Unit {0}
+Recalls f room w height at (Some false) = This f room w at × (0 < height) × (height ≤ failed_at room at)
+Recalls f room w height at (Some true) = This f room w at × (0 < proved_at room at) × (proved_at room at ≤ height)
 
--- and by which clause at exactly this height, one more than its number
-abbrev pub Chose : Files → List ℕ → Where → ℕ → ℕ → ℕ → Type 0
-Chose f room w height at r = 0 < r → This f room w at × (proved_at room at ≡ height) × (choice_at room at ≡ r)
+-- and by which clause at exactly this height: the slot has one more than its number
+abbrev pub Chose : Files → List ℕ → Where → ℕ → ℕ → Option ℕ → Type 0
+Chose f room w height at None = Unit {0}
+Chose f room w height at (Some k) = This f room w at × (proved_at room at ≡ height) × (choice_at room at ≡ k + 1)
 
 -- what a slot can hold: an atom with at most 8 bindings, which stand below the table, and numbers that fit a word
 pub record Fitting (x : Spot) (supposed parameters height : ℕ) : Type 0 where

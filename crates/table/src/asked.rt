@@ -1,89 +1,65 @@
 // What the table says of the atom at a place: nothing, unless a slot has that very atom, under as many supposed clauses and parameters.
-ghost use Rattle.room.specs.Where.{files_of};
+// Kept: files, room and place stay parameters of their own. The room is written and comes back as another, the place is another at each call, and a struct of them would be made anew there.
 ghost use Rattle.table.specs.Recall.{IsThis, Recalls, Chose};
 
-use crate::Recalled;
 use crate::slot::{inside, spot};
-use crate::words::{marks, word};
+use crate::words::marks;
 use equal::same_atoms;
-use room::Where;
+use room::{Files, Where, word_after};
 
 // Whether a slot has the atom at a place. The atoms are compared in full.
-pub(crate) fn is_this<'a>(
-    rules: &'a [u8],
-    goal: &'a [u8],
-    terms: &'a [u8],
-    room: &[u32],
-    w: Where,
-    at: usize,
-) -> bool
-    ensures { IsThis (files_of rules.now goal.now terms.now) room.now w at result }
+pub(crate) fn is_this(files: &Files, room: &[u32], w: Where, at: usize) -> bool
+    ensures { IsThis files.now room.now w at result }
 {
     if !inside(room.len(), at) {
         return false;
     }
-    if !marks(word(room, at, 3), w.supposed) {
+    if !marks(word_after(room, at, 3), w.supposed) {
         return false;
     }
-    if word(room, at, 4) as usize != w.parameters {
+    if word_after(room, at, 4) as usize != w.parameters {
         return false;
     }
     let x = spot(room, at);
-    same_atoms(rules, goal, terms, room, x, w.goal)
+    same_atoms(files, room, x, w.goal)
 }
 
-// A failure is believed up to the height at which it was found, a success from there on.
-pub fn recall<'a>(
-    rules: &'a [u8],
-    goal: &'a [u8],
-    terms: &'a [u8],
-    room: &[u32],
-    w: Where,
-    height: usize,
-    at: usize,
-) -> Recalled
-    ensures { Recalls (files_of rules.now goal.now terms.now) room.now w height at result }
+// Whether the atom is proved within a height, if the table tells. A failure is believed up to the height at which it was found, a success from there on.
+pub fn recall(files: &Files, room: &[u32], w: Where, height: usize, at: usize) -> Option<bool>
+    ensures { Recalls files.now room.now w height at result }
 {
     if height == 0 {
-        return Recalled::Unknown;
+        return None;
     }
-    if !is_this(rules, goal, terms, room, w, at) {
-        return Recalled::Unknown;
+    if !is_this(files, room, w, at) {
+        return None;
     }
-    if height <= word(room, at, 5) as usize {
-        return Recalled::No;
+    if height <= word_after(room, at, 5) as usize {
+        return Some(false);
     }
-    let proved = word(room, at, 6) as usize;
+    let proved = word_after(room, at, 6) as usize;
     if proved == 0 {
-        return Recalled::Unknown;
+        return None;
     }
     if proved <= height {
-        return Recalled::Yes;
+        return Some(true);
     }
-    Recalled::Unknown
+    None
 }
 
-// The clause that serves the atom first, one more than its number; 0 where the slot does not say it. It is believed at the height at which it was found, and at no other.
-pub fn chosen<'a>(
-    rules: &'a [u8],
-    goal: &'a [u8],
-    terms: &'a [u8],
-    room: &[u32],
-    w: Where,
-    height: usize,
-    at: usize,
-) -> usize
-    ensures { Chose (files_of rules.now goal.now terms.now) room.now w height at result }
+// The clause that serves the atom first, by its number, if the slot says it. It is believed at the height at which it was found, and at no other.
+pub fn chosen(files: &Files, room: &[u32], w: Where, height: usize, at: usize) -> Option<usize>
+    ensures { Chose files.now room.now w height at result }
 {
-    let k = word(room, at, 7) as usize;
+    let k = word_after(room, at, 7) as usize;
     if k == 0 {
-        return 0;
+        return None;
     }
-    if word(room, at, 6) as usize != height {
-        return 0;
+    if word_after(room, at, 6) as usize != height {
+        return None;
     }
-    if !is_this(rules, goal, terms, room, w, at) {
-        return 0;
+    if !is_this(files, room, w, at) {
+        return None;
     }
-    k
+    Some(k - 1)
 }

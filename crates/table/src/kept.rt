@@ -1,15 +1,15 @@
 // Entries kept in the table and forgotten. Nothing below the table is written.
+// Kept: the room comes with the word that a frame or a table begins or ends at, since the room is one memory that the caller lends, and which parts it has is the definition's (specs/Layout of crate `room`).
 ghost use Rattle.std.specs.Prelude.{◌≡◌, ◌+◌, ◌≤◌, length};
-ghost use Rattle.room.specs.Where.{files_of};
 ghost use Rattle.table.specs.Slots.{entered, Notes, emptied};
 ghost use Rattle.table.specs.Recall.{FitsSlot, TableOnly, Keeps, Forgets, Empty};
 
 use crate::asked::is_this;
 use crate::path::{carry, numbers, numbers_word};
 use crate::slot::inside;
-use crate::words::{hold, marks, put, source_number, word};
+use crate::words::marks;
 use places::plus;
-use room::{Spot, Where, copy};
+use room::{Files, Spot, Where, copy, hold, put_after, word_after};
 
 // Whether an atom's numbers fit a slot's words, and its bindings stand below the table.
 fn fits(x: Spot, supposed: usize, parameters: usize, height: usize) -> bool
@@ -37,15 +37,14 @@ fn fits(x: Spot, supposed: usize, parameters: usize, height: usize) -> bool
 fn enter(room: &mut [u32], x: Spot, supposed: usize, parameters: usize, at: usize)
     ensures { at + 16 ≤ length room.old → room.new ≡ entered room.old x supposed parameters at }
 {
-    let source = x.source;
-    put(room, at, 0, source_number(source));
-    put(room, at, 1, hold(x.at));
-    put(room, at, 2, hold(x.count));
-    put(room, at, 3, hold(plus(supposed, 1)));
-    put(room, at, 4, hold(parameters));
-    put(room, at, 5, 0);
-    put(room, at, 6, 0);
-    put(room, at, 7, 0);
+    put_after(room, at, 0, u32::from(x.source));
+    put_after(room, at, 1, hold(x.at));
+    put_after(room, at, 2, hold(x.count));
+    put_after(room, at, 3, hold(plus(supposed, 1)));
+    put_after(room, at, 4, hold(parameters));
+    put_after(room, at, 5, 0);
+    put_after(room, at, 6, 0);
+    put_after(room, at, 7, 0);
     copy(room, x.base, x.count, plus(at, 8));
 }
 
@@ -54,21 +53,19 @@ fn note(room: &mut [u32], at: usize, height: usize, found: bool, choice: usize, 
     ensures { at + 16 ≤ length room.old → Notes room.old room.new at height found choice top }
 {
     if found {
-        put(room, at, 6, hold(height));
-        put(room, at, 7, hold(choice));
+        put_after(room, at, 6, hold(height));
+        put_after(room, at, 7, hold(choice));
         let n = numbers(room, at);
         let to = numbers_word(room, at);
         carry(room, top, n, to);
         return;
     }
-    put(room, at, 5, hold(height));
+    put_after(room, at, 5, hold(height));
 }
 
 // Kept of the atom at a place: that it is proved within a height, by which clause (one more than its number, or 0) and with the numbers on top of the stack; or that it failed. An entry of the same atom stays and gets the height; any other makes room.
-pub fn keep<'a>(
-    rules: &'a [u8],
-    goal: &'a [u8],
-    terms: &'a [u8],
+pub fn keep(
+    files: &Files,
     room: &mut [u32],
     w: Where,
     height: usize,
@@ -77,7 +74,7 @@ pub fn keep<'a>(
     choice: usize,
 )
     ensures only { TableOnly room.old room.new }
-    ensures kept { Keeps (files_of rules.now goal.now terms.now) room.old room.new w height at found choice }
+    ensures kept { Keeps files.now room.old room.new w height at found choice }
 {
     if !inside(room.len(), at) {
         return;
@@ -85,7 +82,7 @@ pub fn keep<'a>(
     if !fits(w.goal, w.supposed, w.parameters, height) {
         return;
     }
-    if is_this(rules, goal, terms, room, w, at) {
+    if is_this(files, room, w, at) {
         note(room, at, height, found, choice, w.top);
         return;
     }
@@ -97,8 +94,8 @@ pub fn keep<'a>(
 fn empty(room: &mut [u32], at: usize, supposed: usize)
     ensures { room.new ≡ emptied room.old at supposed }
 {
-    if marks(word(room, at, 3), supposed) {
-        put(room, at, 3, 0);
+    if marks(word_after(room, at, 3), supposed) {
+        put_after(room, at, 3, 0);
     }
 }
 
@@ -108,6 +105,7 @@ pub fn forget(room: &mut [u32], supposed: usize)
     ensures gone { Forgets room.old room.new supposed }
 {
     let mut at: usize = 5376;
+    // Kept: the last slot has to fit whole, which a range with a step does not say more plainly.
     while inside(room.len(), at) {
         empty(room, at, supposed);
         at += 16;
@@ -120,8 +118,9 @@ pub fn empty_all(room: &mut [u32])
     ensures none { Empty room.new }
 {
     let mut at: usize = 5376;
+    // Kept: as in `forget`.
     while inside(room.len(), at) {
-        put(room, at, 3, 0);
+        put_after(room, at, 3, 0);
         at += 16;
     }
 }

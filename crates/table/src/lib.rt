@@ -11,11 +11,3 @@ pub use asked::{chosen, recall};
 pub use kept::{empty_all, forget, keep};
 pub use path::{numbers, take};
 pub use slot::slot_for;
-
-// What the table says of an atom within a height.
-#[derive(Clone, Copy)]
-pub enum Recalled {
-    Unknown,
-    No,
-    Yes,
-}

@@ -1,41 +1,32 @@
 // The words of a slot behind its bindings: as many of the numbers of a path as there is room for, put there and taken from there.
+// Kept: the room comes with the word that a frame or a table begins or ends at, since the room is one memory that the caller lends, and which parts it has is the definition's (specs/Layout of crate `room`).
 ghost use Rattle.std.specs.Prelude.{◌≡◌, ◌+◌, ◌≤◌, length};
 ghost use Rattle.table.specs.Slots.{numbers_of, numbers_word, Carried};
 
-use crate::words::{put, word};
 use places::plus;
+use room::{put_after, word_after};
 
 // How many words a slot has behind its bindings.
 pub fn numbers(room: &[u32], at: usize) -> usize
     ensures { result ≡ numbers_of room.now at }
 {
-    let n = word(room, at, 2);
-    if n < 8 {
-        return (8 - n) as usize;
-    }
-    0
+    8_usize.saturating_sub(word_after(room, at, 2) as usize)
 }
 
 // The first of them.
 pub(crate) fn numbers_word(room: &[u32], at: usize) -> usize
     ensures { at + 16 ≤ length room.now → result ≡ numbers_word room.now at }
 {
-    let n = numbers(room, at);
-    if 16 < n {
-        return at;
-    }
-    plus(at, 16 - n)
+    plus(at, 16_usize.saturating_sub(numbers(room, at)))
 }
 
 // So many words copied from one part of the room to another.
 pub(crate) fn carry(room: &mut [u32], from: usize, n: usize, to: usize)
     ensures { Carried room.old room.new from n to }
 {
-    let mut k: usize = 0;
-    while k < n {
-        let w = word(room, from, k);
-        put(room, to, k, w);
-        k += 1;
+    for k in 0..n {
+        let w = word_after(room, from, k);
+        put_after(room, to, k, w);
     }
 }
 

@@ -2,9 +2,8 @@
 ghost use Rattle.std.specs.Prelude.{◌≡◌, ◌&&◌, ◌+◌, ◌%◌, ◌≤◌, leb, length};
 ghost use Rattle.table.specs.Slots.{table_word, slot_for, slot_spot};
 
-use crate::words::{source_of, word};
 use places::plus;
-use room::Spot;
+use room::{Source, Spot, word_after};
 
 // The slot of a key: which one does not matter for what is true. 0 where the room has none.
 pub fn slot_for(room: &[u32], key: usize) -> usize
@@ -21,24 +20,17 @@ pub fn slot_for(room: &[u32], key: usize) -> usize
 pub(crate) fn inside(words: usize, at: usize) -> bool
     ensures { result ≡ leb table_word at && leb (at + 16) words }
 {
-    if at < 5376 {
-        return false;
-    }
-    if words < 16 {
-        return false;
-    }
-    at <= words - 16
+    5376 <= at && 16 <= words && at <= words - 16
 }
 
 // The spot of a slot's atom.
 pub(crate) fn spot(room: &[u32], at: usize) -> Spot
     ensures { at + 16 ≤ length room.now → result ≡ slot_spot room.now at }
 {
-    let source = source_of(word(room, at, 0));
     Spot {
-        source: source,
-        at: word(room, at, 1) as usize,
+        source: Source::from(word_after(room, at, 0)),
+        at: word_after(room, at, 1) as usize,
         base: plus(at, 8),
-        count: word(room, at, 2) as usize,
+        count: word_after(room, at, 2) as usize,
     }
 }

@@ -28,8 +28,11 @@ use Rattle.fof_pass.specs.declared.ink.Pen.{Pen}
 use Rattle.fof_lines.specs.declared.lines.Passed.{Passed}
 use Rattle.fof_pass.specs.Ink.{Inks}
 use Rattle.fof_lines.specs.Lined.{begins, FiledAs, Passes}
-use Rattle.tptp.specs.declared.Converted.{Converted}
-use Rattle.tptp.specs.declared.Converted.TheVariants as C
+use Rattle.std.specs.Prelude.{Some, None}
+use Rattle.std.specs.Prelude as std
+use Rattle.std.proofs.lemmas.Option.{none-some, same_Some}
+use Rattle.tptp.specs.Converted.{Converted}
+use Rattle.tptp.specs.Converted as converted
 use Rattle.tptp.specs.Comes.{Refusal, number, Comes, of_made, of_tokens, comes_to, answered, over, rules_after, goal_after, Converts}
 use Rattle.tptp.specs.Meaning.{Fits, Means}
 use Rattle.tptp.specs.Parts.{made_number, Measures, Reasons}
@@ -37,7 +40,7 @@ use Rattle.tptp.proofs.MeaningLaws.{short-text, text-told, text-only}
 use Rattle.tptp.proofs.PartsLaws.{signs_of}
 
 -- a refusal's answer, with both buffers as they came
-refused-converts : (text rules goal : List ℕ) (w : Refusal) (r : Converted) → comes_to text (length rules) (length goal) ≡ Comes.refused w → r ≡ C.Refused (number w) 1 0 → Converts text rules rules goal goal r
+refused-converts : (text rules goal : List ℕ) (w : Refusal) (r : Converted) → comes_to text (length rules) (length goal) ≡ Comes.refused w → r ≡ converted.refused (number w) 1 0 → Converts text rules rules goal goal r
 refused-converts text rules goal w r e f = record {
   answer = f ∙ ap answered (sym e);
   ruled = ap (λ (x : Comes). rules_after x rules) (sym e);
@@ -45,7 +48,7 @@ refused-converts text rules goal w r e f = record {
 }
 
 -- 1
-pub too_long : (text rules goal : List ℕ) (r : Converted) → most_bytes < length text → r ≡ C.Refused 1 1 0 → Converts text rules rules goal goal r
+pub too_long : (text rules goal : List ℕ) (r : Converted) → most_bytes < length text → r ≡ converted.refused 1 1 0 → Converts text rules rules goal goal r
 too_long text rules goal r l e = refused-converts text rules goal Refusal.too_long r (text-only text (length rules) (length goal) (Comes.refused Refusal.too_long) l) e
 
 sound-of : (text : List ℕ) → length text ≤ most_bytes → sound_book text ≡ sound text
@@ -53,7 +56,7 @@ unfolding sound_book
 sound-of text l = ap (λ (t : Bool). t && sound text) (le-leb (length text) most_bytes l)
 
 -- 12
-pub not_sound : (text rules goal : List ℕ) (t : Bool) (r : Converted) → length text ≤ most_bytes → t ≡ sound_book text → t ≡ false → r ≡ C.Refused 12 1 0 → Converts text rules rules goal goal r
+pub not_sound : (text rules goal : List ℕ) (t : Bool) (r : Converted) → length text ≤ most_bytes → t ≡ sound_book text → t ≡ false → r ≡ converted.refused 12 1 0 → Converts text rules rules goal goal r
 not_sound text rules goal t r l b n e =
     refused-converts text rules goal Refusal.unsound r
     (text-only text (length rules) (length goal) (Comes.refused Refusal.unsound) (l, (refused-exactly text).0 (sym (sound-of text l) ∙ sym b ∙ n))) e
@@ -72,21 +75,18 @@ readable text t l b y =
     record { cut = s.cut; is_cut = k; comes = λ a c. short-text text a c true l e ∙ ap (λ (o : Option (List Token)). of_tokens o a c) k }
 
 -- 13, 6, 3, 10
-pub refused-lines : (text rules goal : List ℕ) (t : Bool) (p : Passed) (n : ℕ) (r : Converted) → length text ≤ most_bytes → t ≡ sound_book text → t ≡ true → Measures text p → Reasons p (length rules) (length goal) n → (n ≡ 0 → ⊥) → r ≡ C.Refused n 1 0 → Converts text rules rules goal goal r
-refused-lines text rules goal t p n r l b y m s z e =
+pub refused-lines : (text rules goal : List ℕ) (t : Bool) (p : Passed) (n : std.Option ℕ) (i : ℕ) (r : Converted) → length text ≤ most_bytes → t ≡ sound_book text → t ≡ true → Measures text p → Reasons p (length rules) (length goal) n → n ≡ Some i → r ≡ converted.refused i 1 0 → Converts text rules rules goal goal r
+refused-lines text rules goal t p n i r l b y m s z e =
     let k = readable text t l b y in
     let o = lines_at (signs k.cut) in
     go (made_of o (length rules) (length goal)) (k.comes (length rules) (length goal)) (s.does o (m.does l k.cut k.is_cut))
   where
     go : (x : Made) → comes_to text (length rules) (length goal) ≡ of_made x → n ≡ made_number x → Converts text rules rules goal goal r
-    go (Made.files rs g) c f = absurd (z f)
-    go (Made.refused w) c f = refused-converts text rules goal (Refusal.lines w) r c (e ∙ ap (λ (x : ℕ). C.Refused x 1 0) f)
+    go (Made.files rs g) c f = absurd (none-some i (sym f ∙ z))
+    go (Made.refused w) c f = refused-converts text rules goal (Refusal.lines w) r c (e ∙ ap (λ (x : ℕ). converted.refused x 1 0) (same_Some i (why_number w) (sym z ∙ f)))
 
-why-some : (w : Why) → why_number w ≡ 0 → ⊥
-why-some Why.outside e = omega arith
-why-some Why.too_many e = omega arith
-why-some Why.too_deep e = omega arith
-why-some Why.too_long e = omega arith
+why-some : (w : Why) → Some (why_number w) ≡ None → ⊥
+why-some w e = none-some (why_number w) (sym e)
 
 -- marks written from the start into a buffer that has room for them
 record Filled (w d d' : List ℕ) (n : ℕ) : Type 0 where
@@ -132,7 +132,7 @@ items-files is a c rs g e = go (conjectures_in is) e
     go (x ∷ y ∷ zs) h = refused-files Why.outside rs g h
 
 -- what the second reading leaves in the buffers is the files
-filed-converts : (text rules rules' goal goal' : List ℕ) (q : Passed) (rs g : List ℕ) (o : Option (List (Role × List Mark))) → FiledAs o rules rules' goal goal' q → made_of o (length rules) (length goal) ≡ Made.files rs g → comes_to text (length rules) (length goal) ≡ Comes.files rs g → Converts text rules rules' goal goal' (C.Written q.rules.at q.goal.at)
+filed-converts : (text rules rules' goal goal' : List ℕ) (q : Passed) (rs g : List ℕ) (o : Option (List (Role × List Mark))) → FiledAs o rules rules' goal goal' q → made_of o (length rules) (length goal) ≡ Made.files rs g → comes_to text (length rules) (length goal) ≡ Comes.files rs g → Converts text rules rules' goal goal' (converted.written q.rules.at q.goal.at)
 unfolding made_of
 filed-converts text rules rules' goal goal' q rs g none f e k = refused-files Why.outside rs g e
 filed-converts text rules rules' goal goal' q rs g (some is) f e k =
@@ -145,18 +145,18 @@ filed-converts text rules rules' goal goal' q rs g (some is) f e k =
     let x = inks-fill f.rules (omega (arith, m.short.rules)) (omega (arith, m.short.rules_allowed)) in
     let y = inks-fill f.goal (omega (arith, m.short.goal)) (omega (arith, m.short.goal_allowed)) in
     record {
-      answer = ap₂ C.Written (x.long ∙ sym u₁) (y.long ∙ sym v₁) ∙ ap answered (sym k);
+      answer = ap₂ converted.written (x.long ∙ sym u₁) (y.long ∙ sym v₁) ∙ ap answered (sym k);
       ruled = x.bytes ∙ ap (λ (w : List ℕ). over w rules) (sym u) ∙ ap (λ (z : Comes). rules_after z rules) (sym k);
       asked = y.bytes ∙ ap (λ (w : List ℕ). over w goal) (sym v) ∙ ap (λ (z : Comes). goal_after z goal) (sym k);
     }
 
 -- written
-pub written-lines : (text rules rules' goal goal' : List ℕ) (t : Bool) (p q : Passed) (n : ℕ) → length text ≤ most_bytes → t ≡ sound_book text → t ≡ true → Measures text p → Reasons p (length rules) (length goal) n → n ≡ 0 → Passes text rules rules' goal goal' q → Converts text rules rules' goal goal' (C.Written q.rules.at q.goal.at)
+pub written-lines : (text rules rules' goal goal' : List ℕ) (t : Bool) (p q : Passed) (n : std.Option ℕ) → length text ≤ most_bytes → t ≡ sound_book text → t ≡ true → Measures text p → Reasons p (length rules) (length goal) n → n ≡ None → Passes text rules rules' goal goal' q → Converts text rules rules' goal goal' (converted.written q.rules.at q.goal.at)
 written-lines text rules rules' goal goal' t p q n l b y m s z h =
     let k = readable text t l b y in
     let o = lines_at (signs k.cut) in
     go k.cut (made_of o (length rules) (length goal)) refl (k.comes (length rules) (length goal)) (s.does o (m.does l k.cut k.is_cut)) (h.does l (signs k.cut) (signs_of text k.cut k.is_cut))
   where
-    go : (ts : List Token) (x : Made) → made_of (lines_at (signs ts)) (length rules) (length goal) ≡ x → comes_to text (length rules) (length goal) ≡ of_made (made_of (lines_at (signs ts)) (length rules) (length goal)) → n ≡ made_number (made_of (lines_at (signs ts)) (length rules) (length goal)) → FiledAs (lines_at (signs ts)) rules rules' goal goal' q → Converts text rules rules' goal goal' (C.Written q.rules.at q.goal.at)
+    go : (ts : List Token) (x : Made) → made_of (lines_at (signs ts)) (length rules) (length goal) ≡ x → comes_to text (length rules) (length goal) ≡ of_made (made_of (lines_at (signs ts)) (length rules) (length goal)) → n ≡ made_number (made_of (lines_at (signs ts)) (length rules) (length goal)) → FiledAs (lines_at (signs ts)) rules rules' goal goal' q → Converts text rules rules' goal goal' (converted.written q.rules.at q.goal.at)
     go ts (Made.files rs g) e c f d = filed-converts text rules rules' goal goal' q rs g (lines_at (signs ts)) d e (c ∙ ap of_made e)
     go ts (Made.refused w) e c f d = absurd (why-some w (sym (ap made_number e) ∙ sym f ∙ z))

@@ -8,6 +8,8 @@ use native.Mathlib.Omega.{arith}
 use lib.Dec.{ltb, leb}
 use lib.ListN.{length}
 use borrow.Author.Tests.{ltb-true, ltb-false, lt-ltb, le-ltb, le-leb, lt-leb, leb-true, leb-false}
+use Rattle.std.specs.Prelude.{Some, None}
+use Rattle.std.specs.Prelude as std
 use Rattle.basics.specs.Choice.{choose, ◌>>=◌, maybe}
 use Rattle.packet.specs.File.{most_bytes, most_members}
 use Rattle.pen.specs.Laid.{counted}
@@ -81,8 +83,8 @@ counted-long m n = go (ltb (min m most_bytes) n) refl
     go false e = let h = ltb-false (min m most_bytes) n e in le-ltb (min m most_bytes) (counted n) (omega arith)
 
 -- the number by the three tests, in the order 6, 3, 10
-abbrev number_by : Bool → Bool → Bool → ℕ
-number_by m d l = choose m 6 (choose d 3 (choose l 10 0))
+abbrev number_by : Bool → Bool → Bool → std.Option ℕ
+number_by m d l = choose m (Some 6) (choose d (Some 3) (choose l (Some 10) None))
 
 tests-number : (m d l : Bool) (rs g : List ℕ) → made_number (by_tests m d l rs g) ≡ number_by m d l
 tests-number true d l rs g = refl
@@ -114,20 +116,20 @@ module _ (p : Passed) (a c : ℕ) where
       ∙ ap₂ (λ (x y : ℕ). number_by Many Deep (ltb (min a most_bytes) x || ltb (min c most_bytes) y)) (sym s.rules.bytes) (sym s.goal.bytes)
 
   -- 13: a line outside the part
-  pub outside-reason : p.ok ≡ false → Reasons p a c 13
+  pub outside-reason : p.ok ≡ false → Reasons p a c (Some 13)
   unfolding made_of
   outside-reason e = record { does = go }
     where
-      go : (o : Option Items) → SizedAs o p → 13 ≡ made_number (made_of o a c)
+      go : (o : Option Items) → SizedAs o p → Some 13 ≡ made_number (made_of o a c)
       go none s = refl
       go (some is) s = absurd (false≢true (sym e ∙ s.ok))
 
   -- 13: no conjecture, or two
-  pub conjectures-reason : (p.conjectures ≡ 1 → ⊥) → Reasons p a c 13
+  pub conjectures-reason : (p.conjectures ≡ 1 → ⊥) → Reasons p a c (Some 13)
   unfolding made_of
   conjectures-reason n = record { does = go }
     where
-      go : (o : Option Items) → SizedAs o p → 13 ≡ made_number (made_of o a c)
+      go : (o : Option Items) → SizedAs o p → Some 13 ≡ made_number (made_of o a c)
       go none s = refl
       go (some is) s =
           ap (λ (o : Option (List Mark)). made_number (maybe o (Made.refused Why.outside) λ x. sized_marks a c (axioms_in is) x)) (sym (not-one (conjectures_in is) λ e. n (s.conjectures ∙ e)))
@@ -144,14 +146,14 @@ module _ (p : Passed) (a c : ℕ) where
           ∙ sym (sized-number is s e)
 
   -- 6
-  pub many-reason : p.ok ≡ true → p.conjectures ≡ 1 → most_members < p.axioms → Reasons p a c 6
+  pub many-reason : p.ok ≡ true → p.conjectures ≡ 1 → most_members < p.axioms → Reasons p a c (Some 6)
   many-reason y e m = tests-reason true Deep Long y e (lt-ltb most_members p.axioms m) refl refl
 
   -- 3: the rules, or else the goal
-  pub rules-deep-reason : p.ok ≡ true → p.conjectures ≡ 1 → p.axioms ≤ most_members → p.rules.deep ≡ true → Reasons p a c 3
+  pub rules-deep-reason : p.ok ≡ true → p.conjectures ≡ 1 → p.axioms ≤ most_members → p.rules.deep ≡ true → Reasons p a c (Some 3)
   rules-deep-reason y e m d = tests-reason false true Long y e (le-ltb most_members p.axioms m) (ap (λ (t : Bool). t || p.goal.deep) d) refl
 
-  pub goal-deep-reason : p.ok ≡ true → p.conjectures ≡ 1 → p.axioms ≤ most_members → p.rules.deep ≡ false → p.goal.deep ≡ true → Reasons p a c 3
+  pub goal-deep-reason : p.ok ≡ true → p.conjectures ≡ 1 → p.axioms ≤ most_members → p.rules.deep ≡ false → p.goal.deep ≡ true → Reasons p a c (Some 3)
   goal-deep-reason y e m d f = tests-reason false true Long y e (le-ltb most_members p.axioms m) (ap₂ ◌||◌ d f) refl
 
   -- 10: the rules, or else the goal
@@ -161,15 +163,15 @@ module _ (p : Passed) (a c : ℕ) where
   short-is : (n b : ℕ) (t : Bool) → t ≡ leb n (min b most_bytes) → t ≡ true → ltb (min b most_bytes) n ≡ false
   short-is n b t e f = le-ltb (min b most_bytes) n (leb-true n (min b most_bytes) (sym e ∙ f))
 
-  pub rules-long-reason : (t : Bool) → p.ok ≡ true → p.conjectures ≡ 1 → p.axioms ≤ most_members → p.rules.deep ≡ false → p.goal.deep ≡ false → t ≡ leb p.rules.at (min a most_bytes) → t ≡ false → Reasons p a c 10
+  pub rules-long-reason : (t : Bool) → p.ok ≡ true → p.conjectures ≡ 1 → p.axioms ≤ most_members → p.rules.deep ≡ false → p.goal.deep ≡ false → t ≡ leb p.rules.at (min a most_bytes) → t ≡ false → Reasons p a c (Some 10)
   rules-long-reason t y e m d f k n =
       tests-reason false false true y e (le-ltb most_members p.axioms m) (ap₂ ◌||◌ d f) (ap (λ (t : Bool). t || ltb (min c most_bytes) p.goal.at) (long-is p.rules.at a t k n))
 
-  pub goal-long-reason : (t u : Bool) → p.ok ≡ true → p.conjectures ≡ 1 → p.axioms ≤ most_members → p.rules.deep ≡ false → p.goal.deep ≡ false → t ≡ leb p.rules.at (min a most_bytes) → t ≡ true → u ≡ leb p.goal.at (min c most_bytes) → u ≡ false → Reasons p a c 10
+  pub goal-long-reason : (t u : Bool) → p.ok ≡ true → p.conjectures ≡ 1 → p.axioms ≤ most_members → p.rules.deep ≡ false → p.goal.deep ≡ false → t ≡ leb p.rules.at (min a most_bytes) → t ≡ true → u ≡ leb p.goal.at (min c most_bytes) → u ≡ false → Reasons p a c (Some 10)
   goal-long-reason t u y e m d f k n j o =
       tests-reason false false true y e (le-ltb most_members p.axioms m) (ap₂ ◌||◌ d f) (ap₂ ◌||◌ (short-is p.rules.at a t k n) (long-is p.goal.at c u j o))
 
-  -- 0: both files fit
-  pub no-reason : (t u : Bool) → p.ok ≡ true → p.conjectures ≡ 1 → p.axioms ≤ most_members → p.rules.deep ≡ false → p.goal.deep ≡ false → t ≡ leb p.rules.at (min a most_bytes) → t ≡ true → u ≡ leb p.goal.at (min c most_bytes) → u ≡ true → Reasons p a c 0
+  -- none: both files fit
+  pub no-reason : (t u : Bool) → p.ok ≡ true → p.conjectures ≡ 1 → p.axioms ≤ most_members → p.rules.deep ≡ false → p.goal.deep ≡ false → t ≡ leb p.rules.at (min a most_bytes) → t ≡ true → u ≡ leb p.goal.at (min c most_bytes) → u ≡ true → Reasons p a c None
   no-reason t u y e m d f k n j o =
       tests-reason false false false y e (le-ltb most_members p.axioms m) (ap₂ ◌||◌ d f) (ap₂ ◌||◌ (short-is p.rules.at a t k n) (short-is p.goal.at c u j o))

@@ -19,8 +19,8 @@ use Rattle.fof_truth.specs.Book.{Book, rules_file, goal_file, Outcome}
 use Rattle.fof_truth.specs.Meaning as lines
 use Rattle.fof_truth.proofs.BookLaws.{book-only, book-is-as-true}
 use Rattle.fof_truth.proofs.ReadLaws.{what-is-written-is-read}
-use Rattle.tptp.specs.declared.Converted.{Converted}
-use Rattle.tptp.specs.declared.Converted.TheVariants as C
+use Rattle.tptp.specs.Converted.{Converted}
+use Rattle.tptp.specs.Converted as converted
 use Rattle.tptp.specs.Comes.{Comes, comes_to, answered, over, rules_after, goal_after, Converts}
 use Rattle.tptp.specs.Meaning.{Means}
 use Rattle.tptp.specs.True.{Front, AsTrue, Translated, InStep, Alike}
@@ -31,7 +31,7 @@ front_of : (w d d' : List ℕ) (n : ℕ) → length w ≤ length d → length w 
 front_of w d d' n l m e f = record { fits = l; allowed = m; long = e; filled = ap₂ take e f ∙ take-append_seam w (drop (length w) d); kept = ap₂ drop e f ∙ drop-append_seam w (drop (length w) d) ∙ ap (λ (m : ℕ). drop m d) (sym e) }
 
 module _ {text rules rules' goal goal' : List ℕ} {r : Converted} (h : Converts text rules rules' goal goal' r) where
-  translated : (z : Comes) → comes_to text (length rules) (length goal) ≡ z → Means text (length rules) (length goal) z → (x y : ℕ) → answered z ≡ C.Written x y → Translated text rules rules' goal goal' x y
+  translated : (z : Comes) → comes_to text (length rules) (length goal) ≡ z → Means text (length rules) (length goal) z → (x y : ℕ) → answered z ≡ converted.written x y → Translated text rules rules' goal goal' x y
   translated (Comes.refused w) e m x y q = absurd (let z : ◌≡◌ {A = ℕ} 1 0 = ap kind_of q in omega arith)
   translated (Comes.files rs g) e m x y q =
       let k = m.holds in
@@ -52,12 +52,12 @@ module _ {text rules rules' goal goal' : List ℕ} {r : Converted} (h : Converts
       }
 
   -- what is written is read as rules and a goal that are as true as the lines that the text spells
-  pub what-is-written-is-as-true : (x y : ℕ) → r ≡ C.Written x y → Translated text rules rules' goal goal' x y
+  pub what-is-written-is-as-true : (x y : ℕ) → r ≡ converted.written x y → Translated text rules rules' goal goal' x y
   what-is-written-is-as-true x y e =
       translated (comes_to text (length rules) (length goal)) refl (text-told text (length rules) (length goal)) x y (sym h.answer ∙ e)
 
   -- so the two files lie inside the two buffers
-  pub written-inside : (x y : ℕ) → r ≡ C.Written x y → (x ≤ length rules) × (y ≤ length goal)
+  pub written-inside : (x y : ℕ) → r ≡ converted.written x y → (x ≤ length rules) × (y ≤ length goal)
   written-inside x y e =
       let t = what-is-written-is-as-true x y e in
       (omega (arith, t.rules_front.fits, t.rules_front.long), omega (arith, t.goal_front.fits, t.goal_front.long))

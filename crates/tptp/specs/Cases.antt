@@ -2,8 +2,8 @@
 use Rattle.std.specs.Prelude.{ℕ, zero, suc, List, [], ◌∷◌, ◌++◌, replicate}
 use Prim.Native.String.{String}
 use Rattle.basics.specs.Text.{octets}
-use Rattle.tptp.specs.declared.Converted.{Converted}
-use Rattle.tptp.specs.declared.Converted.TheVariants as C
+use Rattle.tptp.specs.Converted.{Converted}
+use Rattle.tptp.specs.Converted as converted
 use Rattle.tptp.specs.Comes.{Comes, comes_to, answered, rules_after, goal_after}
 
 -- a text and the lengths of the two buffers
@@ -32,11 +32,11 @@ answer_to k = leaves (comes_to k.text k.first k.second) k.first k.second
 
 -- a text that is written, with buffers of these lengths
 abbrev writes : String → ℕ → ℕ → ℕ → String → ℕ → String → Row
-writes t a c x rs y g = (record { text = octets t; first = a; second = c }, record { answer = C.Written x y; rules = octets rs; goal = octets g })
+writes t a c x rs y g = (record { text = octets t; first = a; second = c }, record { answer = converted.written x y; rules = octets rs; goal = octets g })
 
 -- a text that is refused, with buffers of these lengths
 abbrev refuses_all : List ℕ → ℕ → ℕ → ℕ → Row
-refuses_all t a c n = (record { text = t; first = a; second = c }, record { answer = C.Refused n 1 0; rules = stars a; goal = stars c })
+refuses_all t a c n = (record { text = t; first = a; second = c }, record { answer = converted.refused n 1 0; rules = stars a; goal = stars c })
 
 abbrev refuses : String → ℕ → Row
 refuses t n = refuses_all (octets t) 100 100 n

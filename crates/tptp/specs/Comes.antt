@@ -11,8 +11,8 @@ use Rattle.fof_truth.specs.Book.{Why, why_number}
 use Rattle.fof_part.specs.Sign.{signs}
 use Rattle.fof_part.specs.Lines.{lines_at}
 use Rattle.fof_part.specs.Made.{Made, made_of}
-use Rattle.tptp.specs.declared.Converted.{Converted}
-use Rattle.tptp.specs.declared.Converted.TheVariants as C
+use Rattle.tptp.specs.Converted.{Converted}
+use Rattle.tptp.specs.Converted as converted
 
 -- why nothing is written
 pub data Refusal : Type 0 where
@@ -49,8 +49,8 @@ comes_to text a c = choose (ltb most_bytes (length text)) (Comes.refused Refusal
 
 -- the answer: all refusals are of file 1, with place 0
 abbrev pub answered : Comes → Converted
-answered (Comes.files rs g) = C.Written (length rs) (length g)
-answered (Comes.refused w) = C.Refused (number w) 1 0
+answered (Comes.files rs g) = converted.written (length rs) (length g)
+answered (Comes.refused w) = converted.refused (number w) 1 0
 
 -- the front filled, the rest kept
 abbrev pub over : List ℕ → List ℕ → List ℕ

@@ -1,3 +1,4 @@
+pub mod Converted
 pub mod Comes
 pub mod Meaning
 pub mod True

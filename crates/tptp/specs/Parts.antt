@@ -1,5 +1,7 @@
--- What the parts of the conversion say: a first reading measures what the lines would be written as, and one number stands for what that comes to.
+-- What the parts of the conversion say: a first reading measures what the lines would be written as, and that comes to the number of a refusal, or to none.
 use Rattle.std.specs.Prelude.{ℕ, ◌≤◌, ◌≡◌, true, false, List, ltb, length}
+use Rattle.std.specs.Prelude.{Some, None}
+use Rattle.std.specs.Prelude as std
 use Rattle.std.proofs.Math.Option.{Option, none, some}
 use Rattle.packet.specs.File.{most_bytes, most_levels}
 use Rattle.pen.specs.Laid.{counted}
@@ -15,10 +17,10 @@ use Rattle.fof_part.specs.Made.{Made, made_of}
 use Rattle.fof_pass.specs.declared.ink.Pen.{Pen}
 use Rattle.fof_lines.specs.declared.lines.Passed.{Passed}
 
--- 0 where there are files, else the number of the refusal
-abbrev pub made_number : Made → ℕ
-made_number (Made.files rs g) = 0
-made_number (Made.refused w) = why_number w
+-- none where there are files, else the number of the refusal
+abbrev pub made_number : Made → std.Option ℕ
+made_number (Made.files rs g) = None
+made_number (Made.refused w) = Some (why_number w)
 
 -- how many bytes marks are, counted no further than a machine word goes, and whether they hold a list at level 65
 pub record Measured (ms : List Mark) (p : Pen) : Type 0 where
@@ -42,5 +44,5 @@ pub record Measures (text : List ℕ) (p : Passed) : Type 0 where
   pub does : length text ≤ most_bytes → (ts : List Token) → tokens text ≡ some ts → SizedAs (lines_at (signs ts)) p
 
 -- the number that what is measured comes to, with buffers of these lengths
-pub record Reasons (p : Passed) (a c n : ℕ) : Type 0 where
+pub record Reasons (p : Passed) (a c : ℕ) (n : std.Option ℕ) : Type 0 where
   pub does : (o : Option (List (Role × List Mark))) → SizedAs o p → n ≡ made_number (made_of o a c)

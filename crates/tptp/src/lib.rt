@@ -4,25 +4,27 @@
 
 ghost use Rattle.std.specs.Prelude.{◌≡◌, min, leb};
 ghost use Rattle.packet.specs.File.{most_bytes};
-ghost use Rattle.tptp.specs.declared.Converted.TheVariants as C;
+ghost use Rattle.tptp.specs.Converted as converted;
 ghost use Rattle.tptp.specs.Comes.{Converts};
 ghost use Rattle.tptp.specs.Parts.{Measures, Reasons};
 
 use fof_grammar::sound_text;
 use fof_lines::{Passed, pass};
 
-// Written with the lengths of both files, which stand in front of what the buffers held, or refused; then both buffers are as they came.
+// The lengths of both files, which stand in front of what the buffers held.
 #[derive(Clone, Copy)]
-pub enum Converted {
-    Written {
-        rules: usize,
-        goal: usize,
-    },
-    Refused {
-        reason: usize,
-        file: usize,
-        place: usize,
-    },
+pub struct Written {
+    pub rules: usize,
+    pub goal: usize,
+}
+
+// Why nothing was written; both buffers are as they came.
+// Kept: the reason is a number, document 01's, since the answer prints it and the theorem refused-exactly (proofs/AnswerLaws) says it.
+#[derive(Clone, Copy)]
+pub struct Refusal {
+    pub reason: usize,
+    pub file: usize,
+    pub place: usize,
 }
 
 // Whether a file of that length is allowed and has room.
@@ -32,32 +34,32 @@ fn fits(long: usize, room: usize) -> bool
     long <= 16384 && long <= room
 }
 
-// The number of the refusal of lines that are sound, or 0 if there is none.
-fn reason(p: Passed, rules: usize, goal: usize) -> usize
+// The number of the refusal of lines that are sound, if there is one.
+fn reason(p: Passed, rules: usize, goal: usize) -> Option<usize>
     ensures { Reasons p rules goal result }
 {
     if !p.ok {
-        return 13;
+        return Some(13);
     }
     if p.conjectures != 1 {
-        return 13;
+        return Some(13);
     }
     if 256 < p.axioms {
-        return 6;
+        return Some(6);
     }
     if p.rules.deep {
-        return 3;
+        return Some(3);
     }
     if p.goal.deep {
-        return 3;
+        return Some(3);
     }
     if !fits(p.rules.at, rules) {
-        return 10;
+        return Some(10);
     }
     if !fits(p.goal.at, goal) {
-        return 10;
+        return Some(10);
     }
-    0
+    None
 }
 
 // What the lines would write.
@@ -69,18 +71,18 @@ fn measured(text: &[u8]) -> Passed
     pass(text, &mut rules, &mut goal)
 }
 
-fn refused(reason: usize) -> Converted
-    ensures { result ≡ C.Refused reason 1 0 }
+fn refused(reason: usize) -> Result<Written, Refusal>
+    ensures { result ≡ converted.refused reason 1 0 }
 {
-    Converted::Refused {
+    Err(Refusal {
         reason,
         file: 1,
         place: 0,
-    }
+    })
 }
 
 // A text of any bytes, with any two buffers.
-pub fn tptp(text: &[u8], rules: &mut [u8], goal: &mut [u8]) -> Converted
+pub fn tptp(text: &[u8], rules: &mut [u8], goal: &mut [u8]) -> Result<Written, Refusal>
     ensures { Converts text.now rules.old rules.new goal.old goal.new result }
 {
     if 16384 < text.len() {
@@ -89,13 +91,12 @@ pub fn tptp(text: &[u8], rules: &mut [u8], goal: &mut [u8]) -> Converted
     if !sound_text(text) {
         return refused(12);
     }
-    let n = reason(measured(text), rules.len(), goal.len());
-    if n != 0 {
+    if let Some(n) = reason(measured(text), rules.len(), goal.len()) {
         return refused(n);
     }
     let p = pass(text, rules, goal);
-    Converted::Written {
+    Ok(Written {
         rules: p.rules.at,
         goal: p.goal.at,
-    }
+    })
 }

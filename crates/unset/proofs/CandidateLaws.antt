@@ -16,8 +16,8 @@ use Rattle.harrop.specs.Formula.{Term}
 use Rattle.harrop.specs.Bindings.{meant, replaced, same_term}
 use Rattle.harrop.proofs.ListLaws.{below-member}
 use Rattle.harrop.proofs.SameLaws.{same-terms-equal, equal-terms-same}
-use Rattle.sexp.specs.declared.words.Value.{Value}
-use Rattle.sexp.specs.declared.words.Value.TheVariants as Val
+use Rattle.std.specs.Option.{unwrap_or}
+use Rattle.std.specs.Prelude.{Option, Some, None}
 use Rattle.sexp.specs.Sexp.{str, Stands}
 use Rattle.sexp.specs.WordsAt.{NumberAt}
 use Rattle.packet.specs.Written.{term_sexp}
@@ -25,7 +25,7 @@ use Rattle.room.specs.Frame.{bound_to}
 use Rattle.room.specs.Spot.{bindings_at}
 use Rattle.room.specs.Table.{CandidatesIn}
 use Rattle.equal.specs.Term.{TermAt, SameTerms}
-use Rattle.room.specs.Where.{Files}
+use Rattle.room.specs.Files.{Files}
 use Rattle.room.specs.declared.Source.TheVariants as Source
 use Rattle.room.specs.declared.Spot.{Spot}
 use Rattle.room.proofs.FrameLaws.{bound-means}
@@ -37,20 +37,18 @@ use Rattle.mentions.specs.Open.{is_open}
 use Rattle.keys.specs.Key.{term_key}
 use Rattle.keys.specs.Keys.{CandidateKeys, TermKeyAt, NextCandidate}
 use Rattle.keys.proofs.WalkLaws.{candidate-meant, no-f-v, no-e-v}
-use Rattle.unset.specs.declared.Forced.TheVariants as F
-use Rattle.unset.specs.Head.{candidate_spot, Numbered, IsCandidate, NoneOf, LowestOf, LowestAt, BoundTo, CandidateAt, OpenAt}
-use Rattle.unset.proofs.HeadLaws.{never}
+use Rattle.unset.specs.Head.{candidate_spot, Numbered, IsCandidate, NoneOf, LowestOf, LowestAt, BoundTo, CandidateOf, CandidateAt, OpenAt}
 
 -- a spot of the terms file with no frame
 abbrev pub terms_spot : ℕ → Spot
 terms_spot at = record { source = Source.Terms; at = at; base = 0; count = 0 }
 
 -- the bytes decide
-pub bytes-decide : (f : Files) (room : List ℕ) (y : Spot) (i : ℕ) {z : Spot} {r : Bool} → z ≡ candidate_spot room i → SameTerms f.rules f.goal f.terms room z y 128 r → IsCandidate f room y i r
+pub bytes-decide : (f : Files) (room : List ℕ) (y : Spot) (i : ℕ) {z : Spot} {r : Bool} → z ≡ candidate_spot room i → SameTerms f room z y 128 r → IsCandidate f room y i r
 bytes-decide f room y i {r = r} e M us t u C T m =
-    let here : TermAt f.rules f.goal f.terms (candidate_spot room i) t = record { stands = C.starts i t m; shallow = C.shallow i t m; few = omega arith; holds = true; ok = C.closed i t m } in
+    let here : TermAt f (candidate_spot room i) t = record { stands = C.starts i t m; shallow = C.shallow i t m; few = omega arith; holds = true; ok = C.closed i t m } in
     let n = replaced-nests us C.shallow (bindings_at room (candidate_spot room i)) t in
-    let M' = subst (λ (v : Spot). SameTerms f.rules f.goal f.terms room v y 128 r) e M in
+    let M' = subst (λ (v : Spot). SameTerms f room v y 128 r) e M in
     M' us t u C here T (omega (arith, n, C.shallow i t m))
     ∙ ap (λ (v : Term). same_term v (replaced us (bindings_at room y) u)) (closed-stays us (bindings_at room (candidate_spot room i)) true t (C.closed i t m))
 
@@ -70,20 +68,20 @@ module _ (f : Files) (room : List ℕ) (y : Spot) (key n : ℕ) where
   pub none_first : {r : ℕ} → NextCandidate room key 0 n r → NoneBelow f room y key n r
   none_first X = none-on {from = 0} (λ us u C K T q few j l e. absurd (omega arith)) X
 
-  pub lowest-none : {i : ℕ} → n ≤ i → NoneBelow f room y key n i → LowestAt f room y key n n
-  lowest-none l N us u C K T q few = record { few = omega arith; is = λ h. absurd (omega arith); lowest = λ j h. N us u C K T q few j (omega arith) }
+  pub lowest-none : {i : ℕ} → n ≤ i → NoneBelow f room y key n i → LowestAt f room y key n None
+  lowest-none l N us u C K T q few = λ j h. N us u C K T q few j (omega arith)
 
   module _ (i : ℕ) {r : Bool} (M : IsCandidate f room y i r) where
-    pub lowest-found : i < n → r ≡ true → NoneBelow f room y key n i → LowestAt f room y key n i
+    pub lowest-found : i < n → r ≡ true → NoneBelow f room y key n i → LowestAt f room y key n (Some i)
     lowest-found l o N us u C K T q few =
         let w = replaced us (bindings_at room y) u in
         let (t, e) = below-member us i (omega arith) in
-        record { few = omega arith; is = λ h. e ∙ ap some (same-terms-equal t w (sym (M us t u C T e) ∙ o)); lowest = N us u C K T q few }
+        (l, e ∙ ap some (same-terms-equal t w (sym (M us t u C T e) ∙ o)), N us u C K T q few)
 
     pub none-next : {k : ℕ} → r ≡ false → NoneBelow f room y key n i → NextCandidate room key (i + 1) n k → NoneBelow f room y key n k
     none-next o N X = none-on {from = i + 1} (λ us u C K T q few j l e. go us u C K T q few j l e (ltb j i) refl) X
       where
-        go : (us : List Term) (u : Term) → CandidatesIn room f.terms us → CandidateKeys room us → TermAt f.rules f.goal f.terms y u → key ≡ term_key (replaced us (bindings_at room y) u) → n ≤ length us
+        go : (us : List Term) (u : Term) → CandidatesIn room f.terms us → CandidateKeys room us → TermAt f y u → key ≡ term_key (replaced us (bindings_at room y) u) → n ≤ length us
             → (j : ℕ) → j < i + 1 → get_elem? us j ≡ some (replaced us (bindings_at room y) u) → (b : Bool) → ltb j i ≡ b → ⊥
         go us u C K T q few j l e true h = N us u C K T q few j (ltb-true j i h) e
         go us u C K T q few j l e false h =
@@ -92,10 +90,10 @@ module _ (f : Files) (room : List ℕ) (y : Spot) (key n : ℕ) where
             false≢true (sym o ∙ M us w u C T (subst (λ (m : ℕ). get_elem? us m ≡ some w) k e) ∙ equal-terms-same w w refl)
 
 -- a variable that is read at a spot stands there
-variable-is : {f : Files} {y : Spot} {s : List ℕ} {r : Bool} {v : Value} {j : ℕ} → s ≡ drop y.at (bytes_at f y) → Tells r (Stands s 1 (str (octets "v"))) → r ≡ true → NumberAt s 4 v → v ≡ Val.Is j → (u : Term) → TermAt f.rules f.goal f.terms y u → u ≡ Term.v j
+variable-is : {f : Files} {y : Spot} {s : List ℕ} {r : Bool} {v : Option ℕ} {j : ℕ} → s ≡ drop y.at (bytes_at f y) → Tells r (Stands s 1 (str (octets "v"))) → r ≡ true → NumberAt s 4 v → v ≡ Some j → (u : Term) → TermAt f y u → u ≡ Term.v j
 variable-is {f} {y} {s} {v = v} {j = j} e h i n k u T = go u T (subst (λ (p : List ℕ). Stands p 0 (term_sexp u)) (sym e) (part-stands T.stands))
   where
-    go : (u : Term) → TermAt f.rules f.goal f.terms y u → Stands s 0 (term_sexp u) → u ≡ Term.v j
+    go : (u : Term) → TermAt f y u → Stands s 0 (term_sexp u) → u ≡ Term.v j
     go (Term.v m) T g =
         let l = ltb-true m y.count T.ok in
         let z = number_read m v (term-text (Term.v m) g) (omega (arith, l, T.few)) n in
@@ -106,43 +104,31 @@ variable-is {f} {y} {s} {v = v} {j = j} e h i n k u T = go u T (subst (λ (p : L
 
 -- the candidate that the variable at a spot is bound to, and whether it is unset
 module _ (f : Files) (room : List ℕ) (y : Spot) where
-  pub bound-nowhere : BoundTo f room y 4294967295
-  bound-nowhere us u C T l = absurd (omega (arith, C.few))
-
-  pub open-nowhere : (own : ℕ) → OpenAt f room y own Val.Nothing
+  pub open-nowhere : (own : ℕ) → OpenAt f room y own None
   open-nowhere own t T = tt
 
-  module _ {s : List ℕ} {r : Bool} {v : Value} {j : ℕ} (e : s ≡ drop y.at (bytes_at f y)) (h : Tells r (Stands s 1 (str (octets "v")))) (i : r ≡ true) (n : NumberAt s 4 v) (k : v ≡ Val.Is j) where
-    pub bound-there : {c : ℕ} {b : Binding} → b ≡ bound_to (bindings_at room y) j → b ≡ Candidate c → BoundTo f room y c
+  module _ {s : List ℕ} {r : Bool} {v : Option ℕ} {j : ℕ} (e : s ≡ drop y.at (bytes_at f y)) (h : Tells r (Stands s 1 (str (octets "v")))) (i : r ≡ true) (n : NumberAt s 4 v) (k : v ≡ Some j) where
+    pub bound-there : {c : ℕ} {b : Binding} → b ≡ bound_to (bindings_at room y) j → b ≡ Candidate c → BoundTo f room y (Some c)
     bound-there {c} q o us u C T l =
         let (t, m) = below-member us c l in
         m
         ∙ ap some (candidate-meant us c t m ∙ sym (ap (replaced us (bindings_at room y)) (variable-is e h i n k u T) ∙ sym (bound-means us (bindings_at room y) j) ∙ ap (meant us) (sym q ∙ o)))
 
-    pub open-there : (own : ℕ) {b : Bool} → b ≡ is_open own (bindings_at room y) j → b ≡ true → OpenAt f room y own (Val.Is j)
+    pub open-there : (own : ℕ) {b : Bool} → b ≡ is_open own (bindings_at room y) j → b ≡ true → OpenAt f room y own (Some j)
     open-there own q o t T = (variable-is e h i n k t T, sym q ∙ o)
 
   -- the lowest of those before it, or itself
-  pub bound-serves : {n c k : ℕ} (r : ℕ) → n ≡ get_or room 257 0 → BoundTo f room y c → c < n → k ≡ get_or room (3456 + c) 0 → LowestAt f room y k c r → CandidateAt f room y (F.Candidate r)
-  bound-serves {c = c} r e B l q L us u C K T =
+  pub bound-serves : {n c k m : ℕ} {b : Option ℕ} (r : Option ℕ) → n ≡ get_or room 257 0 → BoundTo f room y b → b ≡ Some c → c < n → k ≡ get_or room (3456 + c) 0 → LowestAt f room y k c r → m ≡ unwrap_or r c → CandidateAt f room y (Some m)
+  bound-serves {c = c} {k} {m} r e B z l q L o us u C K T =
       let w = replaced us (bindings_at room y) u in
-      let m = B us u C T (omega (arith, C.counted)) in
-      let low = L us u C K T (q ∙ K.numbers c w m) (omega (arith, C.counted)) in
-      (go (ltb r c) refl w m low, low.lowest)
+      let i = subst (BoundTo f room y) z B us u C T (omega (arith, C.counted)) in
+      subst (λ (d : ℕ). CandidateOf us w (Some d)) (sym o) (go r w i (L us u C K T (q ∙ K.numbers c w i) (omega (arith, C.counted))))
     where
-      go : (b : Bool) → ltb r c ≡ b → (w : Term) → get_elem? us c ≡ some w → LowestOf us c w r → get_elem? us r ≡ some w
-      go true h w m low = low.is (ltb-true r c h)
-      go false h w m low =
-          let same : c ≡ r = omega (arith, ltb-false r c h, low.few) in
-          subst (λ (j : ℕ). get_elem? us j ≡ some w) same m
+      go : (r : Option ℕ) (w : Term) → get_elem? us c ≡ some w → LowestOf us c w r → CandidateOf us w (Some (unwrap_or r c))
+      go (Some d) w i low = (low.1, low.2)
+      go None w i low = (i, low)
 
   -- the lowest of all, or none
-  module _ {n k : ℕ} (r : ℕ) (e : n ≡ get_or room 257 0) (t : TermKeyAt f room y k) (L : LowestAt f room y k n r) where
-    low : (us : List Term) (u : Term) → CandidatesIn room f.terms us → CandidateKeys room us → TermAt f.rules f.goal f.terms y u → LowestOf us n (replaced us (bindings_at room y) u) r
-    low us u C K T = L us u C K T (t us u C K T) (omega (arith, C.counted))
-
-    pub lowest-serves : r < n → CandidateAt f room y (F.Candidate r)
-    lowest-serves l us u C K T = ((low us u C K T).is l, (low us u C K T).lowest)
-
-    pub never-serves : n ≤ r → CandidateAt f room y F.Never
-    never-serves l us u C K T = λ i h. (low us u C K T).lowest i (omega (arith, C.counted))
+  pub lowest-serves : {n k : ℕ} (r : Option ℕ) → n ≡ get_or room 257 0 → TermKeyAt f room y k → LowestAt f room y k n r → CandidateAt f room y r
+  lowest-serves (Some i) e t L us u C K T = let low = L us u C K T (t us u C K T) (omega (arith, C.counted)) in (low.1, low.2)
+  lowest-serves None e t L us u C K T = λ i h. L us u C K T (t us u C K T) (omega (arith, C.counted)) i (omega (arith, C.counted))

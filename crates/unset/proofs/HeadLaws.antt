@@ -18,11 +18,9 @@ use Rattle.harrop.specs.Formula.{Name, Term, Terms, Atom}
 use Rattle.harrop.specs.Bindings.{Bindings, meant, value_of, replaced, replaceds, replaced_atom, same_name, same_term, same_terms, same_atom}
 use Rattle.harrop.proofs.ListLaws.{member_below, below-member}
 use Rattle.harrop.proofs.SameLaws.{same-terms-equal}
-use Rattle.sexp.specs.declared.skip.After.{After}
-use Rattle.sexp.specs.declared.skip.After.TheVariants as A
-use Rattle.sexp.specs.declared.words.Value.{Value}
-use Rattle.sexp.specs.declared.words.Value.TheVariants as Val
-use Rattle.sexp.specs.Sexp.{Sexp, str, spell, Stands, StandsAll, nestings}
+use Rattle.std.specs.Option.{option_eq}
+use Rattle.std.specs.Prelude.{Option, Some, None}
+use Rattle.sexp.specs.Sexp.{Sexp, str, spell, Stands, StandsAll}
 use Rattle.sexp.specs.Past.{PastAt}
 use Rattle.sexp.specs.WordsAt.{Shared, NumberAt}
 use Rattle.sexp.proofs.AnswerLaws.{past_next}
@@ -34,7 +32,8 @@ use Rattle.room.specs.Layout.{levels}
 use Rattle.room.specs.Spot.{bindings_at}
 use Rattle.room.specs.Table.{CandidatesIn}
 use Rattle.equal.specs.Term.{AtomAt, TermAt, SameTerms}
-use Rattle.room.specs.Where.{Files, plus, further}
+use Rattle.room.specs.Where.{plus, further}
+use Rattle.room.specs.Files.{Files}
 use Rattle.room.specs.declared.Spot.{Spot}
 use Rattle.room.proofs.NestLaws.{replaced-nests}
 use Rattle.equal.proofs.SeeLaws.{number_read, unread}
@@ -48,7 +47,7 @@ use Rattle.unset.specs.declared.Forced.{Forced}
 use Rattle.unset.specs.declared.Forced.TheVariants as F
 use Rattle.held.specs.Held.{Holding}
 use Rattle.unset.specs.Unset.{Small, MayBe, ForcedAs, Forces}
-use Rattle.unset.specs.Beside.{IsVariable, VariableIs, SameIs}
+use Rattle.unset.specs.Beside.{IsVariable, VariableIs, BesideOf, BesideIs, BesideAt, SameIs, SameAs}
 use Rattle.unset.specs.declared.Likeness.{Likeness}
 use Rattle.unset.specs.declared.Likeness.TheVariants as L
 use Rattle.unset.specs.Head.{LikeAs, Comparing, DiffersAt, NoneOf, CandidateOf, CandidateAt, is_variable, VariableAt, Row}
@@ -96,12 +95,15 @@ lowest-means us w n m low i l e =
     let (t, k) = below-member us i (omega (arith, member_below us n w m)) in
     low i l (k ∙ ap some (candidate-meant us i t k ∙ e ∙ sym (candidate-meant us n w m)))
 
--- a variable that becomes a term, whatever frame makes the head the atom, becomes the lowest candidate that is the term
+-- what is forced on a variable that becomes a term, by the lowest candidate that is the term
+abbrev pub forced : Option ℕ → Forced
+forced (Some n) = F.Candidate n
+forced None = F.Never
+
 forced-as : (us : List Term) (bs : Bindings) (b a : Atom) (v : ℕ) (w : Term) → ((ds : Bindings) → same_atom (replaced_atom us ds b) (replaced_atom us bs a) ≡ true → value_of us ds v ≡ w)
-    → (r : Forced) → CandidateOf us w r → ForcedAs us bs b a v r
-forced-as us bs b a v w h F.Nothing o = tt
-forced-as us bs b a v w h (F.Candidate n) o = record { gives = λ ds e. h ds e ∙ candidate-meant us n w o.0; lowest = lowest-means us w n o.0 o.1 }
-forced-as us bs b a v w h F.Never o = λ ds n t m e.
+    → (r : Option ℕ) → CandidateOf us w r → ForcedAs us bs b a v (forced r)
+forced-as us bs b a v w h (Some n) o = record { gives = λ ds e. h ds e ∙ candidate-meant us n w o.0; lowest = lowest-means us w n o.0 o.1 }
+forced-as us bs b a v w h None o = λ ds n t m e.
     never (same_atom (replaced_atom us ds b) (replaced_atom us bs a)) (λ z. o n (member_below us n t m) (m ∙ ap some (sym e ∙ h ds z)))
 
 -- a part of a file
@@ -126,16 +128,16 @@ module _ (s : List ℕ) (at v : ℕ) where
       go (Term.f g ts) S = refl
       go (Term.e k) S = refl
 
-  module _ {p q : ℕ} {r : Bool} (w : Value) (i : p ≡ plus at 1) (h : Tells r (Stands s p (str (octets "v")))) (f : r ≡ true) (j : q ≡ plus at 4) (n : NumberAt s q w) where
+  module _ {p q : ℕ} {r : Bool} (w : Option ℕ) (i : p ≡ plus at 1) (h : Tells r (Stands s p (str (octets "v")))) (f : r ≡ true) (j : q ≡ plus at 4) (n : NumberAt s q w) where
     word-there : (t : Term) → length s ≤ most_bytes → Stands s at (term_sexp t) → term_word t ≡ octets "v"
     word-there t l S = text-once (at_offset 1 l (term-word t (part-stands S)) i) (told-yes f h)
 
-    number-there : (m around : ℕ) → length s ≤ most_bytes → Stands s at (term_sexp (Term.v m)) → around ≤ levels → term_ok false around (Term.v m) ≡ true → w ≡ Val.Is m
+    number-there : (m around : ℕ) → length s ≤ most_bytes → Stands s at (term_sexp (Term.v m)) → around ≤ levels → term_ok false around (Term.v m) ≡ true → w ≡ Some m
     number-there m around l S few ok =
         let b = ltb-true m around ok in
         number_read m w (at_offset 4 l (term-text (Term.v m) (part-stands S)) j) (omega (arith, b, few)) n
 
-    pub variable-read : {k : ℕ} → w ≡ Val.Is k → VariableAt s at v (eqb k v)
+    pub variable-read : {k : ℕ} → w ≡ Some k → VariableAt s at v (eqb k v)
     variable-read {k} z t around S l few ok = go t S ok
       where
         go : (t : Term) → Stands s at (term_sexp t) → term_ok false around t ≡ true → eqb k v ≡ is_variable v t
@@ -146,7 +148,7 @@ module _ (s : List ℕ) (at v : ℕ) where
         go (Term.f g ts) S ok = absurd (no-f-v (word-there (Term.f g ts) l S))
         go (Term.e m) S ok = absurd (no-e-v (word-there (Term.e m) l S))
 
-    pub variable-unread : w ≡ Val.Nothing → VariableAt s at v false
+    pub variable-unread : w ≡ None → VariableAt s at v false
     variable-unread z t around S l few ok = go t S ok
       where
         go : (t : Term) → Stands s at (term_sexp t) → term_ok false around t ≡ true → false ≡ is_variable v t
@@ -154,18 +156,25 @@ module _ (s : List ℕ) (at v : ℕ) where
         go (Term.f g ts) S ok = refl
         go (Term.e m) S ok = refl
 
+    pub variable-same : {b : Bool} → b ≡ option_eq eqb w (Some v) → VariableAt s at v b
+    variable-same {b} e = go w refl e
+      where
+        go : (x : Option ℕ) → w ≡ x → b ≡ option_eq eqb x (Some v) → VariableAt s at v b
+        go (Some k) z e = subst (VariableAt s at v) (sym e) (variable-read z)
+        go None z e = subst (VariableAt s at v) (sym e) (variable-unread z)
+
 -- which variable stands there, if one does
-pub variable-is : (s : List ℕ) (at : ℕ) {p q : ℕ} {r : Bool} (w : Value) → p ≡ plus at 1 → Tells r (Stands s p (str (octets "v"))) → r ≡ true → q ≡ plus at 4 → NumberAt s q w → VariableIs s at w
-variable-is s at Val.Nothing i h f j n t around S l few ok = tt
-variable-is s at (Val.Is k) i h f j n t around S l few ok = is-this k t (sym (variable-read s at k (Val.Is k) i h f j n refl t around S l few ok) ∙ eq-eqb k k refl)
+pub variable-is : (s : List ℕ) (at : ℕ) {p q : ℕ} {r : Bool} (w : Option ℕ) → p ≡ plus at 1 → Tells r (Stands s p (str (octets "v"))) → r ≡ true → q ≡ plus at 4 → NumberAt s q w → VariableIs s at w
+variable-is s at None i h f j n t around S l few ok = tt
+variable-is s at (Some k) i h f j n t around S l few ok = is-this k t (sym (variable-read s at k (Some k) i h f j n refl t around S l few ok) ∙ eq-eqb k k refl)
 
 -- a term beside another: one that holds no unset variable is compared for good
 module _ (f : Files) (room : List ℕ) (x y : Spot) (own : ℕ) where
   pub compare-open : Comparing f room x y own L.Open
   compare-open us t u C T U = tt
 
-  module _ {s : List ℕ} {h r : Bool} (q : s ≡ drop x.at (bytes_at f x)) (H : Holding s 0 0 64 (asked own (bindings_at room x) false 0) h) (e : h ≡ false) (M : SameTerms f.rules f.goal f.terms room x y 128 r) where
-    for-good : (us : List Term) (t u : Term) → CandidatesIn room f.terms us → TermAt f.rules f.goal f.terms x t → TermAt f.rules f.goal f.terms y u
+  module _ {s : List ℕ} {h r : Bool} (q : s ≡ drop x.at (bytes_at f x)) (H : Holding s 0 0 64 (asked own (bindings_at room x) false 0) h) (e : h ≡ false) (M : SameTerms f room x y 128 r) where
+    for-good : (us : List Term) (t u : Term) → CandidatesIn room f.terms us → TermAt f x t → TermAt f y u
         → (ds : Bindings) → Becomes us own (bindings_at room x) ds → same_term (replaced us ds t) (replaced us (bindings_at room y) u) ≡ r
     for-good us t u C T U ds B =
         let st = subst (λ (l : List ℕ). Stands l 0 (term_sexp t)) (sym q) (part-stands T.stands) in
@@ -197,7 +206,7 @@ pub record Left (x y : Spot) (s t : List ℕ) (us : List Term) (b a : Atom) (p q
 
 abbrev pub LeftAt : Files → List ℕ → Spot → Spot → List ℕ → List ℕ → ℕ → ℕ → Type 0
 LeftAt f room x y s t p q =
-    (us : List Term) (b a : Atom) → Small f → CandidatesIn room f.terms us → AtomAt f.rules f.goal f.terms x b → AtomAt f.rules f.goal f.terms y a
+    (us : List Term) (b a : Atom) → Small f → CandidatesIn room f.terms us → AtomAt f x b → AtomAt f y a
     → Left x y s t us b a p q
 
 -- the same of whatever spot the head's part starts at
@@ -208,14 +217,14 @@ PartsLeft f room y s t p q = (x : Spot) → s ≡ drop x.at (bytes_at f x) → L
 pub record Beside (f : Files) (room : List ℕ) (x y : Spot) (s t : List ℕ) (us : List Term) (b a : Atom) (p q : ℕ) : Type 0 where
   pub u : Term
   pub w : Term
-  pub before : {m : ℕ} {v : After} → v ≡ A.Next m → PastAt s p 64 v → (one : Terms) → Row x.count s m one → Row x.count s p (Terms.cons u one)
-  pub beyond : {m : ℕ} {v : After} → v ≡ A.Next m → PastAt t q 64 v → (two : Terms) → Row y.count t m two → Row y.count t q (Terms.cons w two)
-  pub here : TermAt f.rules f.goal f.terms (further x p) u
-  pub there : TermAt f.rules f.goal f.terms (further y q) w
+  pub before : {m : ℕ} {v : Option ℕ} → v ≡ Some m → PastAt s p 64 v → (one : Terms) → Row x.count s m one → Row x.count s p (Terms.cons u one)
+  pub beyond : {m : ℕ} {v : Option ℕ} → v ≡ Some m → PastAt t q 64 v → (two : Terms) → Row y.count t m two → Row y.count t q (Terms.cons w two)
+  pub here : TermAt f (further x p) u
+  pub there : TermAt f (further y q) w
   pub implied : (ds : Bindings) → same_atom (replaced_atom us ds b) (replaced_atom us (bindings_at room y) a) ≡ true → same_term (replaced us ds u) (replaced us (bindings_at room y) w) ≡ true
 
 -- the arguments of an atom stand after its name
-module _ {f : Files} {x : Spot} {s : List ℕ} (n : Name) (ts : Terms) (X : AtomAt f.rules f.goal f.terms x (Atom.atom n ts)) (e : s ≡ drop x.at (bytes_at f x)) where
+module _ {f : Files} {x : Spot} {s : List ℕ} (n : Name) (ts : Terms) (X : AtomAt f x (Atom.atom n ts)) (e : s ≡ drop x.at (bytes_at f x)) where
   pub atom-here : Stands s 0 (atom_sexp (Atom.atom n ts))
   atom-here = subst (λ (l : List ℕ). Stands l 0 (atom_sexp (Atom.atom n ts))) (sym e) (part-stands X.stands)
 
@@ -227,14 +236,14 @@ module _ {f : Files} {x : Spot} {s : List ℕ} (n : Name) (ts : Terms) (X : Atom
     ok = X.ok;
   }
 
-  pub name-past : {a : After} {i : ℕ} → PastAt s 7 0 a → a ≡ A.Next i → i ≡ 7 + length (spell (str n))
+  pub name-past : {a : Option ℕ} {i : ℕ} → PastAt s 7 0 a → a ≡ Some i → i ≡ 7 + length (spell (str n))
   name-past a z = let E = past_next z a in E.ends ∙ ap (λ (y : Sexp). 7 + length (spell y)) (stands-once E.stands (atom-text n ts atom-here))
 
 -- a term at an offset of a part stands at a spot
-pub term-there : (f : Files) (x : Spot) {s : List ℕ} {p : ℕ} {z : Spot} (t : Term) (ts : Terms) → Small f → s ≡ drop x.at (bytes_at f x) → z ≡ further x p → Row x.count s p (Terms.cons t ts) → TermAt f.rules f.goal f.terms z t
+pub term-there : (f : Files) (x : Spot) {s : List ℕ} {p : ℕ} {z : Spot} (t : Term) (ts : Terms) → Small f → s ≡ drop x.at (bytes_at f x) → z ≡ further x p → Row x.count s p (Terms.cons t ts) → TermAt f z t
 term-there f x {p = p} t ts S e q R =
     let st = from-part x.at p e (first-stands R.stands) in
-    subst (λ (v : Spot). TermAt f.rules f.goal f.terms v t) (sym q) (record {
+    subst (λ (v : Spot). TermAt f v t) (sym q) (record {
       stands = subst (λ (j : ℕ). Stands (bytes_at f x) j (term_sexp t)) (sym (plus-inside (bytes_at f x) x.at p (S x.source) st)) st;
       shallow = omega (arith, R.shallow);
       few = R.few;
@@ -243,7 +252,7 @@ term-there f x {p = p} t ts S e q R =
     })
 
 -- the others of a row
-pub row_next : {around : ℕ} {s : List ℕ} {p m : ℕ} {a : After} (t : Term) (ts : Terms) → a ≡ A.Next m → PastAt s p 64 a → Row around s p (Terms.cons t ts) → Row around s m ts
+pub row_next : {around : ℕ} {s : List ℕ} {p m : ℕ} {a : Option ℕ} (t : Term) (ts : Terms) → a ≡ Some m → PastAt s p 64 a → Row around s p (Terms.cons t ts) → Row around s m ts
 row_next {around} {s} {p} t ts z a R =
     let E = past_next z a in
     let end = E.ends ∙ ap (λ (y : Sexp). p + length (spell y)) (stands-once E.stands (first-stands R.stands)) in
@@ -255,7 +264,7 @@ row_next {around} {s} {p} t ts z a R =
     }
 
 -- a term before others
-row_back : {around : ℕ} {s : List ℕ} {p m : ℕ} {a : After} (t : Term) (ts us : Terms) → a ≡ A.Next m → PastAt s p 64 a → Row around s p (Terms.cons t ts) → Row around s m us → Row around s p (Terms.cons t us)
+row_back : {around : ℕ} {s : List ℕ} {p m : ℕ} {a : Option ℕ} (t : Term) (ts us : Terms) → a ≡ Some m → PastAt s p 64 a → Row around s p (Terms.cons t ts) → Row around s m us → Row around s p (Terms.cons t us)
 row_back {around} {s} {p} t ts us z a R Q =
     let E = past_next z a in
     let end = E.ends ∙ ap (λ (y : Sexp). p + length (spell y)) (stands-once E.stands (first-stands R.stands)) in
@@ -287,7 +296,7 @@ module _ (f : Files) (room : List ℕ) (x y : Spot) {s t : List ℕ} (ex : s ≡
       let d : n ≡ m → ⊥ = λ q. told-no e h (record { octets = n; here = atom-text n ts (atom-here n ts X ex); there = subst (λ (l : List ℕ). Stands t 7 (str l)) (sym q) (atom-text m ws (atom-here m ws Y ey)) }) in
       ap (λ (c : Bool). c && same_terms (replaceds us ds ts) (replaceds us (bindings_at room y) ws)) (names-differ n m d)
 
-  start : (us : List Term) (n m : Name) (ts ws : Terms) (p q : ℕ) → AtomAt f.rules f.goal f.terms x (Atom.atom n ts) → AtomAt f.rules f.goal f.terms y (Atom.atom m ws)
+  start : (us : List Term) (n m : Name) (ts ws : Terms) (p q : ℕ) → AtomAt f x (Atom.atom n ts) → AtomAt f y (Atom.atom m ws)
       → p ≡ 7 + length (spell (str n)) → q ≡ 7 + length (spell (str m)) → Left x y s t us (Atom.atom n ts) (Atom.atom m ws) p q
   start us n m ts ws p q X Y i j = record {
     one = ts;
@@ -298,10 +307,10 @@ module _ (f : Files) (room : List ℕ) (x y : Spot) {s t : List ℕ} (ex : s ≡
   }
 
   -- the arguments, all of them, after two names or after one name that both have
-  pub left-two : {a b : After} {i j : ℕ} → PastAt s 7 0 a → a ≡ A.Next i → PastAt t 7 0 b → b ≡ A.Next j → LeftAt f room x y s t i j
+  pub left-two : {a b : Option ℕ} {i j : ℕ} → PastAt s 7 0 a → a ≡ Some i → PastAt t 7 0 b → b ≡ Some j → LeftAt f room x y s t i j
   left-two {i = i} {j = j} a z b w us (Atom.atom n ts) (Atom.atom m ws) S C X Y = start us n m ts ws i j X Y (name-past n ts X ex a z) (name-past m ws Y ey b w)
 
-  pub left_one : {r : Bool} {a : After} {i : ℕ} → Tells r (Shared s 7 t 7) → r ≡ true → PastAt s 7 0 a → a ≡ A.Next i → LeftAt f room x y s t i i
+  pub left_one : {r : Bool} {a : Option ℕ} {i : ℕ} → Tells r (Shared s 7 t 7) → r ≡ true → PastAt s 7 0 a → a ≡ Some i → LeftAt f room x y s t i i
   left_one {i = i} h e a z us (Atom.atom n ts) (Atom.atom m ws) S C X Y =
       let N = told-yes e h in
       let same : n ≡ m = text-once (atom-text n ts (atom-here n ts X ex)) N.here ∙ text-once N.there (atom-text m ws (atom-here m ws Y ey)) in
@@ -354,7 +363,7 @@ module _ (f : Files) (room : List ℕ) (x y : Spot) {s t : List ℕ} (ex : s ≡
               record { u = u; w = w; one = one; two = two; here = R; there = R'; implied = λ ds es z. both_true (same_term (replaced us ds u) (replaced us es w)) (same_terms (replaceds us ds one) (replaceds us es two)) (i ds es z) }
 
       -- they are beside each other
-      pub left-beside : (us : List Term) (b a : Atom) → Small f → CandidatesIn room f.terms us → AtomAt f.rules f.goal f.terms x b → AtomAt f.rules f.goal f.terms y a → Beside f room x y s t us b a p q
+      pub left-beside : (us : List Term) (b a : Atom) → Small f → CandidatesIn room f.terms us → AtomAt f x b → AtomAt f y a → Beside f room x y s t us b a p q
       left-beside us b a S C X Y =
           let l = firsts us b a (L us b a S C X Y) in
           record {
@@ -375,7 +384,7 @@ module _ (f : Files) (room : List ℕ) (x y : Spot) {s t : List ℕ} (ex : s ≡
           refuted (same_atom (replaced_atom us ds b) (replaced_atom us (bindings_at room y) a)) (same_term (replaced us ds l.u) (replaced us (bindings_at room y) l.w)) (l.implied ds) (D' us l.u l.w C l.here l.there o ds B)
 
       -- they are gone past
-      pub left-next : {a b : After} {m n : ℕ} → a ≡ A.Next m → PastAt s p 64 a → b ≡ A.Next n → PastAt t q 64 b → LeftAt f room x y s t m n
+      pub left-next : {a b : Option ℕ} {m n : ℕ} → a ≡ Some m → PastAt s p 64 a → b ≡ Some n → PastAt t q 64 b → LeftAt f room x y s t m n
       left-next i A j B us b a S C X Y =
           let l = firsts us b a (L us b a S C X Y) in
           record {
@@ -386,26 +395,34 @@ module _ (f : Files) (room : List ℕ) (x y : Spot) {s t : List ℕ} (ex : s ≡
             implied = λ ds es m. (l.implied ds es m).1;
           }
 
-      -- the head's is the variable: it becomes the atom's
-      pub left-forced : (v : ℕ) {r : Bool} {o : Spot} (z : Forced) → VariableAt s p v r → r ≡ true → o ≡ further y q → CandidateAt f room o z → Forces f room x y v z
-      left-forced v z at i j H us b a S C K X Y =
+      -- the head's is the variable: wherever the two are the same, it is the atom's
+      pub left-argument : (v : ℕ) {r : Bool} → VariableAt s p v r → r ≡ true → (us : List Term) (b a : Atom) → Small f → CandidatesIn room f.terms us → AtomAt f x b → AtomAt f y a → BesideOf f y us b a v q
+      left-argument v at i us b a S C X Y =
           let l = firsts us b a (L us b a S C X Y) in
           let ok = (both_true (term_ok false x.count l.u) (terms_ok false x.count l.one) l.here.ok).0 in
           let it = is-this v l.u (sym (at l.u x.count (first-stands l.here.stands) (part_small (bytes_at f x) x.at ex (S x.source)) l.here.few ok) ∙ i) in
-          let H' = subst (λ (n : Spot). CandidateAt f room n z) j H us l.w C K (term-there f y l.w l.two S ey refl l.there) in
-          forced-as us (bindings_at room y) b a v (replaced us (bindings_at room y) l.w)
-          (λ ds m. sym (ap (replaced us ds) it) ∙ same-terms-equal (replaced us ds l.u) (replaced us (bindings_at room y) l.w) (l.implied ds (bindings_at room y) m).0) z H'
+          record {
+            term = l.w;
+            stands = subst (λ (k : List ℕ). Stands k q (term_sexp l.w)) ey (first-stands l.there.stands);
+            ok = (both_true (term_ok false y.count l.w) (terms_ok false y.count l.two) l.there.ok).0;
+            here = term-there f y l.w l.two S ey refl l.there;
+            is = λ ds es m. sym (ap (replaced us ds) it) ∙ same-terms-equal (replaced us ds l.u) (replaced us es l.w) (l.implied ds es m).0;
+          }
 
-      -- both are variables: where the atoms are the same, so are these
-      pub left-same : (v : ℕ) {r : Bool} (z : Value) → VariableAt s p v r → r ≡ true → VariableIs t q z → (us : List Term) (b a : Atom) → Small f → CandidatesIn room f.terms us → AtomAt f.rules f.goal f.terms x b → AtomAt f.rules f.goal f.terms y a → SameIs us b a v z
-      left-same v z at i H us b a S C X Y =
-          let l = firsts us b a (L us b a S C X Y) in
-          let ok = (both_true (term_ok false x.count l.u) (terms_ok false x.count l.one) l.here.ok).0 in
-          let ok' = (both_true (term_ok false y.count l.w) (terms_ok false y.count l.two) l.there.ok).0 in
-          let it = is-this v l.u (sym (at l.u x.count (first-stands l.here.stands) (part_small (bytes_at f x) x.at ex (S x.source)) l.here.few ok) ∙ i) in
-          let there = H l.w y.count (first-stands l.there.stands) (part_small (bytes_at f y) y.at ey (S y.source)) l.there.few ok' in
-          go z l.u l.w it there (λ ds es m. (l.implied ds es m).0)
-        where
-          go : (z : Value) (u w : Term) → u ≡ Term.v v → IsVariable w z → ((ds es : Bindings) → same_atom (replaced_atom us ds b) (replaced_atom us es a) ≡ true → same_term (replaced us ds u) (replaced us es w) ≡ true) → SameIs us b a v z
-          go Val.Nothing u w it there same = tt
-          go (Val.Is n) u w it there same = λ ds es m. sym (ap (replaced us ds) it) ∙ same-terms-equal (replaced us ds u) (replaced us es w) (same ds es m) ∙ ap (replaced us es) there
+-- an argument beside a variable: what it forces, and which variable it is
+module _ (f : Files) (x y : Spot) (v : ℕ) {r : Option ℕ} {q : ℕ} (B : BesideAt f x y v r) (i : r ≡ Some q) where
+  pub forced-there : (room : List ℕ) {o : Spot} {z : Option ℕ} (k : Option ℕ) → o ≡ further y q → CandidateAt f room o z → z ≡ k → Forces f room x y v (forced k)
+  forced-there room {z = z} k j H e us b a S C K X Y =
+      let l = subst (BesideIs f y us b a v) i (B room us b a S C X Y) in
+      let w = replaced us (bindings_at room y) l.term in
+      forced-as us (bindings_at room y) b a v w (λ ds m. l.is ds (bindings_at room y) m) k
+      (subst (CandidateOf us w) e (subst (λ (n : Spot). CandidateAt f room n z) j H us l.term C K l.here))
+
+  pub same-there : {t : List ℕ} (z : Option ℕ) → t ≡ drop y.at (bytes_at f y) → VariableIs t q z → SameAs f x y v z
+  same-there z e H room us b a S C X Y =
+      let l = subst (BesideIs f y us b a v) i (B room us b a S C X Y) in
+      go l z (H l.term y.count (subst (λ (k : List ℕ). Stands k q (term_sexp l.term)) (sym e) l.stands) (part_small (bytes_at f y) y.at e (S y.source)) Y.few l.ok)
+    where
+      go : (l : BesideOf f y us b a v q) (z : Option ℕ) → IsVariable l.term z → SameIs us b a v z
+      go l None it = tt
+      go l (Some n) it = λ ds es m. l.is ds es m ∙ ap (replaced us es) it

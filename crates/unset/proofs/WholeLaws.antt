@@ -9,8 +9,7 @@ use Rattle.basics.specs.Tells.{Tells, told-yes}
 use Rattle.harrop.specs.Formula.{Name, Term, Terms, Atom}
 use Rattle.harrop.specs.Bindings.{Bindings, replaced, replaceds, replaced_atom, same_term, same_terms, same_atom}
 use Rattle.harrop.proofs.SameLaws.{equal-names-same}
-use Rattle.sexp.specs.declared.skip.After.{After}
-use Rattle.sexp.specs.declared.skip.After.TheVariants as A
+use Rattle.std.specs.Prelude.{Option, Some}
 use Rattle.sexp.specs.Sexp.{str, spell}
 use Rattle.sexp.specs.Past.{PastAt}
 use Rattle.sexp.specs.WordsAt.{Shared}
@@ -18,7 +17,7 @@ use Rattle.sexp.proofs.StandLaws.{all_once, first-stands, no-closing}
 use Rattle.packet.specs.Read.{terms_in}
 use Rattle.packet.proofs.ReadLaws.{terms-read}
 use Rattle.room.specs.Table.{CandidatesIn}
-use Rattle.room.specs.Where.{Files}
+use Rattle.room.specs.Files.{Files}
 use Rattle.room.specs.declared.Spot.{Spot}
 use Rattle.equal.specs.Term.{AtomAt}
 use Rattle.equal.proofs.TermLaws.{atom-text, text-once}
@@ -39,8 +38,8 @@ Enough x y s t us b a bs frames p q =
 
 module _ (f : Files) (room : List ℕ) (x y : Spot) {s t : List ℕ} (ex : s ≡ drop x.at (bytes_at f x)) (ey : t ≡ drop y.at (bytes_at f y)) where
   -- after the name that both have
-  pub enough-start : {r : Bool} {v : After} {i : ℕ} → Tells r (Shared s 7 t 7) → r ≡ true → PastAt s 7 0 v → v ≡ A.Next i
-      → (us : List Term) (b a : Atom) (bs : Bindings) (frames : Bindings → Type 0) → AtomAt f.rules f.goal f.terms x b → AtomAt f.rules f.goal f.terms y a → Enough x y s t us b a bs frames i i
+  pub enough-start : {r : Bool} {v : Option ℕ} {i : ℕ} → Tells r (Shared s 7 t 7) → r ≡ true → PastAt s 7 0 v → v ≡ Some i
+      → (us : List Term) (b a : Atom) (bs : Bindings) (frames : Bindings → Type 0) → AtomAt f x b → AtomAt f y a → Enough x y s t us b a bs frames i i
   enough-start {i = i} h e v z us (Atom.atom n ts) (Atom.atom m ws) bs frames X Y one two R R' es k same =
       let N = told-yes e h in
       let name : n ≡ m = text-once (atom-text n ts (atom-here n ts X ex)) N.here ∙ text-once N.there (atom-text m ws (atom-here m ws Y ey)) in
@@ -51,13 +50,13 @@ module _ (f : Files) (room : List ℕ) (x y : Spot) {s t : List ℕ} (ex : s ≡
 
   module _ {us : List Term} {b a : Atom} {bs : Bindings} {p q : ℕ} where
     -- past two arguments that become the same
-    pub enough-next : {frames fewer : Bindings → Type 0} {v v' : After} {m n : ℕ} (l : Beside f room x y s t us b a p q) → Enough x y s t us b a bs frames p q → ((es : Bindings) → fewer es → frames es) → ((es : Bindings) → fewer es → same_term (replaced us es l.u) (replaced us bs l.w) ≡ true)
-        → v ≡ A.Next m → PastAt s p 64 v → v' ≡ A.Next n → PastAt t q 64 v' → Enough x y s t us b a bs fewer m n
+    pub enough-next : {frames fewer : Bindings → Type 0} {v v' : Option ℕ} {m n : ℕ} (l : Beside f room x y s t us b a p q) → Enough x y s t us b a bs frames p q → ((es : Bindings) → fewer es → frames es) → ((es : Bindings) → fewer es → same_term (replaced us es l.u) (replaced us bs l.w) ≡ true)
+        → v ≡ Some m → PastAt s p 64 v → v' ≡ Some n → PastAt t q 64 v' → Enough x y s t us b a bs fewer m n
     enough-next l E less here i A j B one two R R' es k same = E (Terms.cons l.u one) (Terms.cons l.w two) (l.before i A one R) (l.beyond j B two R') es (less es k) (ap₂ ◌&&◌ (here es k) same)
 
     -- none is left of either
     pub enough-end : {frames : Bindings → Type 0} {c d : Bool} → LeftAt f room x y s t p q → c ≡ eqb (get_or s p 0) 41 → c ≡ true → d ≡ eqb (get_or t q 0) 41 → d ≡ true
-        → Small f → CandidatesIn room f.terms us → AtomAt f.rules f.goal f.terms x b → AtomAt f.rules f.goal f.terms y a
+        → Small f → CandidatesIn room f.terms us → AtomAt f x b → AtomAt f y a
         → Enough x y s t us b a bs frames p q → (es : Bindings) → frames es → same_atom (replaced_atom us es b) (replaced_atom us bs a) ≡ true
     enough-end L e h g k S C X Y E es m =
         let l = L us b a S C X Y in

@@ -8,6 +8,7 @@ pub use beside::same_as;
 pub use head::{candidate_at, compare, forced_by, is_variable, may_be, open_at};
 
 // What an atom forces on a variable: nothing, a candidate, or more than any candidate can give.
+// Kept: three answers, one of them with a value; an Option in an Option would not say which None is meant.
 #[derive(Clone, Copy)]
 pub enum Forced {
     Nothing,
@@ -16,6 +17,7 @@ pub enum Forced {
 }
 
 // A term beside another, or a head beside an atom, where variables of the first are not set: it is another whatever they become, it is the same whatever they become, or that is open.
+// Kept: three answers without a value, so no Option or Result.
 #[derive(Clone, Copy)]
 pub enum Likeness {
     Never,

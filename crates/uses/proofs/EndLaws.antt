@@ -1,5 +1,7 @@
 -- The end of a path (document 01, "When a strip fits"): it ends exactly at an atom or at G implies atom; that atom, variables replaced, equals the goal's; a third part is
 -- there exactly if an implication was reached.
+use Rattle.std.specs.Prelude as code
+use Rattle.std.specs.Prelude.{Some, None}
 use Prim.Native.Nat.{ℕ, ◌+◌, ◌≤◌}
 use native.Mathlib.Omega.{arith}
 use mathlib.Core.Path.{◌≡◌, refl, sym, ◌∙◌, ap, ap₂, subst}
@@ -21,13 +23,14 @@ use Rattle.packet.specs.Written.{one, two, number, each, atom_sexp, goal_sexp, c
 use Rattle.packet.specs.Barred.{atom_ok, goal_ok, clause_ok}
 use Rattle.packet.specs.Offset.{width}
 use Rattle.room.specs.Layout.{levels}
-use Rattle.room.specs.Spot.{file_of, bindings_at}
+use Rattle.room.specs.Spot.{bindings_at}
+use Rattle.room.specs.Files.{Files, file_of}
 use Rattle.equal.specs.Term.{AtomAt, SameAtoms}
 use Rattle.room.specs.declared.Spot.{Spot}
 use Rattle.room.specs.declared.Where.{Where}
 use Rattle.room.proofs.FrameLaws.{frame-length}
 use Rattle.room.proofs.MoveLaws.{hand-higher}
-use Rattle.uses.specs.Walk.{Files, Means, Told}
+use Rattle.uses.specs.Walk.{Means, Told}
 use Rattle.uses.specs.Use.{use_of, concluded, matched, Heads, Headed, moved_to, AtEnd}
 use Rattle.uses.specs.declared.Entered.TheVariants as E
 use Rattle.uses.specs.declared.uses.Head.{Head}
@@ -44,13 +47,13 @@ module _ (file s : List ℕ) (x : Spot) (p : s ≡ drop x.at file) where
   there-stands : (i : ℕ) {e : Sexp} → Stands s i e → Stands file (x.at + i) e
   there-stands i {e} h = whole-stands-at file x.at i (subst (λ (t : List ℕ). Stands t i e) p h)
 
-  pub head-fact : (e : Clause Plain) → Stands s 1 (Sexp.str (octets "atom")) → Stands file x.at (clause_sexp e) → Heads file x e (H.Fact x)
+  pub head-fact : (e : Clause Plain) → Stands s 1 (Sexp.str (octets "atom")) → Stands file x.at (clause_sexp e) → Heads file x e (Some (H.Fact x))
   head-fact (Clause.atom_d b) w k = (b, refl, refl)
   head-fact (Clause.imp_d g a) w k = absurd (omega (arith, clause-word s (octets "atom") (octets "imp") _ (here-stands k) w))
   head-fact (Clause.all_d q d) w k = absurd (omega (arith, clause-word s (octets "atom") (octets "all") _ (here-stands k) w))
   head-fact (Clause.and_d c d) w k = absurd (omega (arith, clause-word s (octets "atom") (octets "and") _ (here-stands k) w))
 
-  pub head-neither : (e : Clause Plain) → (Stands s 1 (Sexp.str (octets "atom")) → ⊥) → (Stands s 1 (Sexp.str (octets "imp")) → ⊥) → Stands file x.at (clause_sexp e) → Heads file x e H.Nothing
+  pub head-neither : (e : Clause Plain) → (Stands s 1 (Sexp.str (octets "atom")) → ⊥) → (Stands s 1 (Sexp.str (octets "imp")) → ⊥) → Stands file x.at (clause_sexp e) → Heads file x e None
   head-neither (Clause.atom_d (Atom.atom n ts)) u v k = absurd (u (first-stands (members-stand (here-stands k))))
   head-neither (Clause.imp_d g a) u v k = absurd (v (first-stands (members-stand (here-stands k))))
   head-neither (Clause.all_d q d) u v k = λ us o bs. refl
@@ -70,7 +73,7 @@ module _ (file s : List ℕ) (x : Spot) (p : s ≡ drop x.at file) where
       let m = spell-some f.expression in
       (omega (arith, f.ends), omega (arith, f.ends))
 
-  pub head-implies : (e : Clause Plain) (n : ℕ) (y z : Spot) → Stands s 1 (Sexp.str (octets "imp")) → Ends s 6 levels n → y ≡ moved_to x (x.at + 6) → z ≡ moved_to x (x.at + n) → Stands file x.at (clause_sexp e) → Heads file x e (H.Implies y z)
+  pub head-implies : (e : Clause Plain) (n : ℕ) (y z : Spot) → Stands s 1 (Sexp.str (octets "imp")) → Ends s 6 levels n → y ≡ moved_to x (x.at + 6) → z ≡ moved_to x (x.at + n) → Stands file x.at (clause_sexp e) → Heads file x e (Some (H.Implies y z))
   head-implies (Clause.atom_d (Atom.atom m ts)) n y z w f p q k = absurd (omega (arith, clause-word s (octets "imp") (octets "atom") _ (here-stands k) w))
   head-implies (Clause.imp_d g a) n y z w f p q k =
       let h = first_part (octets "imp") heads.1.1.1.1.1.1.1.0 (here-stands k) in
@@ -151,11 +154,11 @@ module _ (f : Files) (ss room : List ℕ) (ds : List (Clause Plain)) (us : List 
   pub end-next : (more : Option Strip) → At more → (next : ℕ) → Ends ss path 1 next → next ≡ path + width (path_sexp steps)
   end-next more h next n = ends_is (use-path ss at k steps more path h.node.offset h.node.stands) n
 
-  pub end-heads : (more : Option Strip) → At more → {r t : Head} → r ≡ t → Headed (file_of f.rules f.goal f.terms x.source) x r → Heads (file_of f.rules f.goal f.terms x.source) x e t
-  end-heads more h q n = subst (λ (y : Head). Heads (file_of f.rules f.goal f.terms x.source) x e y) q (n e h.clause.stands (omega (arith, h.clause.shallow)))
+  pub end-heads : (more : Option Strip) → At more → {r t : code.Option Head} → r ≡ t → Headed (file_of f x.source) x r → Heads (file_of f x.source) x e t
+  end-heads more h q n = subst (λ (y : code.Option Head). Heads (file_of f x.source) x e y) q (n e h.clause.stands (omega (arith, h.clause.shallow)))
 
   -- the goal's atom, and the answer whether another equals it
-  goal-atom : (more : Option Strip) → At more → AtomAt f.rules f.goal f.terms w.goal a
+  goal-atom : (more : Option Strip) → At more → AtomAt f w.goal a
   goal-atom more h =
       let p = h.node.place in
       let l = p.framed.shallow in
@@ -166,12 +169,12 @@ module _ (f : Files) (ss room : List ℕ) (ds : List (Clause Plain)) (us : List 
         ok = subst (λ (i : ℕ). atom_ok i a ≡ true) (ap length (sym p.framed.holds) ∙ frame-length room w.goal.base w.goal.count) p.scoped;
       }
 
-  same-there : (more : Option Strip) → At more → (y : Spot) (b : Atom) (r : Bool) → AtomAt f.rules f.goal f.terms y b → bindings_at room y ≡ bs' → SameAtoms f.rules f.goal f.terms room y w.goal r → r ≡ Same b
+  same-there : (more : Option Strip) → At more → (y : Spot) (b : Atom) (r : Bool) → AtomAt f y b → bindings_at room y ≡ bs' → SameAtoms f room y w.goal r → r ≡ Same b
   same-there more h y b r t q s =
       s us b a h.node.place.booked.candidates t (goal-atom more h)
       ∙ ap₂ (λ (p r : Bindings). same_atom (replaced_atom us p b) (replaced_atom us r a)) q h.node.place.framed.holds
 
-  pub end-nothing : (more : Option Strip) → At more → Heads (file_of f.rules f.goal f.terms x.source) x e H.Nothing → Said more ≡ here
+  pub end-nothing : (more : Option Strip) → At more → Heads (file_of f x.source) x e None → Said more ≡ here
   end-nothing more h n = ap (λ (y : Option (End Plain)). concluded (listed us) o c more (matched us bs a y)) (n us o bs') ∙ shut_none us o c more
 
   -- at a fact
@@ -179,29 +182,29 @@ module _ (f : Files) (ss room : List ℕ) (ds : List (Clause Plain)) (us : List 
     says-fact : (more : Option Strip) → Said more ≡ concluded (listed us) o c more (provided (Same b) (some (End.at_atom b bs')))
     says-fact more = ap (λ (y : Clause Plain). concluded (listed us) o c more (matched us bs a (follow (listed us) o y bs' []))) q
 
-    fact-same : (more : Option Strip) → At more → (y : Spot) (r : Bool) → y ≡ x → SameAtoms f.rules f.goal f.terms room y w.goal r → r ≡ Same b
+    fact-same : (more : Option Strip) → At more → (y : Spot) (r : Bool) → y ≡ x → SameAtoms f room y w.goal r → r ≡ Same b
     fact-same more h y r p s =
         let l = subst (λ (y : Clause Plain). x.count + nesting (clause_sexp y) ≤ levels) q h.clause.shallow in
         same-there more h x b r
         (record {
-          stands = subst (λ (y : Clause Plain). Stands (file_of f.rules f.goal f.terms x.source) x.at (clause_sexp y)) q h.clause.stands;
+          stands = subst (λ (y : Clause Plain). Stands (file_of f x.source) x.at (clause_sexp y)) q h.clause.stands;
           shallow = omega arith;
           few = omega arith;
           ok = subst (λ (y : Clause Plain). clause_ok x.count y ≡ true) q h.clause.scoped;
         })
-        h.clause.holds (subst (λ (z : Spot). SameAtoms f.rules f.goal f.terms room z w.goal r) p s)
+        h.clause.holds (subst (λ (z : Spot). SameAtoms f room z w.goal r) p s)
 
     pub fact-open : (more : Option Strip) → At more → (next : ℕ) → next ≡ path + width (path_sexp steps) → (get_or ss next 0 ≡ 41 → ⊥) → Said more ≡ here
     fact-open none h next m n = absurd (n (third-closes ss at k steps path next h.node.offset m h.node.stands))
     fact-open (some X) h next m n = says-fact (some X) ∙ fact-some us o c X b bs' (Same b)
 
-    pub fact-differs : (more : Option Strip) → At more → (y : Spot) (r : Bool) → y ≡ x → SameAtoms f.rules f.goal f.terms room y w.goal r → r ≡ false → Said more ≡ here
+    pub fact-differs : (more : Option Strip) → At more → (y : Spot) (r : Bool) → y ≡ x → SameAtoms f room y w.goal r → r ≡ false → Said more ≡ here
     fact-differs more h y r p s t =
         says-fact more
         ∙ ap (λ (u : Bool). concluded (listed us) o c more (provided u (some (End.at_atom b bs')))) (sym (fact-same more h y r p s) ∙ t)
         ∙ shut_none us o c more
 
-    pub fact-fits : (more : Option Strip) → At more → (next : ℕ) → next ≡ path + width (path_sexp steps) → get_or ss next 0 ≡ 41 → (y : Spot) (r : Bool) → y ≡ x → SameAtoms f.rules f.goal f.terms room y w.goal r → r ≡ true → Told f ss room ds us w at (use_of k steps more) (Said more) (E.Leaf (next + 1))
+    pub fact-fits : (more : Option Strip) → At more → (next : ℕ) → next ≡ path + width (path_sexp steps) → get_or ss next 0 ≡ 41 → (y : Spot) (r : Bool) → y ≡ x → SameAtoms f room y w.goal r → r ≡ true → Told f ss room ds us w at (use_of k steps more) (Said more) (Some (E.Leaf (next + 1)))
     fact-fits none h next m n y r p s t = (
       says-fact none ∙ ap (λ (u : Bool). concluded (listed us) o c none (provided u (some (End.at_atom b bs')))) (sym (fact-same none h y r p s) ∙ t),
       none-wide ss at k steps path next h.node.offset m,
@@ -219,26 +222,26 @@ module _ (f : Files) (ss room : List ℕ) (ds : List (Clause Plain)) (us : List 
     imp-scoped : (more : Option Strip) → At more → (goal_ok x.count g ≡ true) × (atom_ok x.count b ≡ true)
     imp-scoped more h = both_true (goal_ok x.count g) (atom_ok x.count b) (subst (λ (y : Clause Plain). clause_ok x.count y ≡ true) q h.clause.scoped)
 
-    imp-same : (more : Option Strip) → At more → (i : ℕ) (y : Spot) (r : Bool) → y ≡ moved_to x i → Stands (file_of f.rules f.goal f.terms x.source) i (atom_sexp b) → SameAtoms f.rules f.goal f.terms room y w.goal r → r ≡ Same b
+    imp-same : (more : Option Strip) → At more → (i : ℕ) (y : Spot) (r : Bool) → y ≡ moved_to x i → Stands (file_of f x.source) i (atom_sexp b) → SameAtoms f room y w.goal r → r ≡ Same b
     imp-same more h i y r p t s =
         let l = imp-shallow more h in
         same-there more h (moved_to x i) b r
         (record { stands = t; shallow = omega arith; few = omega arith; ok = (imp-scoped more h).1 })
         h.clause.holds
-        (subst (λ (z : Spot). SameAtoms f.rules f.goal f.terms room z w.goal r) p s)
+        (subst (λ (z : Spot). SameAtoms f room z w.goal r) p s)
 
     pub imp-shut : (more : Option Strip) → At more → (next : ℕ) → next ≡ path + width (path_sexp steps) → get_or ss next 0 ≡ 41 → Said more ≡ here
     imp-shut none h next m n = says-imp none ∙ imp-none us o c g b bs' (Same b)
     imp-shut (some X) h next m n = absurd (no-closing (third-stands ss at k steps path next h.node.offset m X h.node.stands) n)
 
-    pub imp-differs : (more : Option Strip) → At more → (i : ℕ) (y : Spot) (r : Bool) → y ≡ moved_to x i → Stands (file_of f.rules f.goal f.terms x.source) i (atom_sexp b) → SameAtoms f.rules f.goal f.terms room y w.goal r → r ≡ false → Said more ≡ here
+    pub imp-differs : (more : Option Strip) → At more → (i : ℕ) (y : Spot) (r : Bool) → y ≡ moved_to x i → Stands (file_of f x.source) i (atom_sexp b) → SameAtoms f room y w.goal r → r ≡ false → Said more ≡ here
     imp-differs more h i y r p t s z =
         says-imp more
         ∙ ap (λ (u : Bool). concluded (listed us) o c more (provided u (some (End.at_imp g b bs')))) (sym (imp-same more h i y r p t s) ∙ z)
         ∙ shut_none us o c more
 
     -- the place of the third part
-    imp-means : (more : Option Strip) → At more → Stands (file_of f.rules f.goal f.terms x.source) (x.at + 6) (goal_sexp g) → Means f room ds us (record { goal = moved_to x (x.at + 6); supposed = w.supposed; parameters = w.parameters; top = end }) o c bs' g
+    imp-means : (more : Option Strip) → At more → Stands (file_of f x.source) (x.at + 6) (goal_sexp g) → Means f room ds us (record { goal = moved_to x (x.at + 6); supposed = w.supposed; parameters = w.parameters; top = end }) o c bs' g
     imp-means more h t =
         let p = h.node.place in
         let l = imp-shallow more h in
@@ -258,12 +261,12 @@ module _ (f : Files) (ss room : List ℕ) (ds : List (Clause Plain)) (us : List 
           hand = hand-higher (omega (arith, h.fresh, h.ends)) p.hand;
         }
 
-    pub imp-fits : (more : Option Strip) → At more → (next : ℕ) → next ≡ path + width (path_sexp steps) → (get_or ss next 0 ≡ 41 → ⊥) → (i : ℕ) (y z : Spot) (r : Bool) → z ≡ moved_to x (x.at + 6) → Stands (file_of f.rules f.goal f.terms x.source) (x.at + 6) (goal_sexp g) → y ≡ moved_to x i → Stands (file_of f.rules f.goal f.terms x.source) i (atom_sexp b) → SameAtoms f.rules f.goal f.terms room y w.goal r → r ≡ true
-        → Told f ss room ds us w at (use_of k steps more) (Said more) (E.One next (record { goal = z; supposed = w.supposed; parameters = w.parameters; top = end }))
+    pub imp-fits : (more : Option Strip) → At more → (next : ℕ) → next ≡ path + width (path_sexp steps) → (get_or ss next 0 ≡ 41 → ⊥) → (i : ℕ) (y z : Spot) (r : Bool) → z ≡ moved_to x (x.at + 6) → Stands (file_of f x.source) (x.at + 6) (goal_sexp g) → y ≡ moved_to x i → Stands (file_of f x.source) i (atom_sexp b) → SameAtoms f room y w.goal r → r ≡ true
+        → Told f ss room ds us w at (use_of k steps more) (Said more) (Some (E.One next (record { goal = z; supposed = w.supposed; parameters = w.parameters; top = end })))
     imp-fits none h next m n i y z r pz tg p t s v = absurd (n (third-closes ss at k steps path next h.node.offset m h.node.stands))
     imp-fits (some X) h next m n i y z r pz tg p t s v =
         let l = imp-shallow (some X) h in
-        subst (λ (d : Spot). Told f ss room ds us w at (use_of k steps (some X)) (Said (some X)) (E.One next (record { goal = d; supposed = w.supposed; parameters = w.parameters; top = end }))) (sym pz) (
+        subst (λ (d : Spot). Told f ss room ds us w at (use_of k steps (some X)) (Said (some X)) (Some (E.One next (record { goal = d; supposed = w.supposed; parameters = w.parameters; top = end })))) (sym pz) (
           X,
           check (listed us) X o c bs' g,
           record {

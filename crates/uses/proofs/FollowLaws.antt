@@ -1,4 +1,6 @@
 -- A path followed through a clause step by step (document 01, "When a strip fits"): the part of the clause that is left, the frame so far, and where the path ends.
+use Rattle.std.specs.Prelude as code
+use Rattle.std.specs.Prelude.{Some, None}
 use Prim.Native.Nat.{ℕ, suc, ◌+◌, ◌-◌, ◌≤◌}
 use native.Mathlib.Omega.{arith}
 use mathlib.Core.Path.{◌≡◌, sym, ◌∙◌, ap, subst}
@@ -14,17 +16,16 @@ use Rattle.harrop.specs.Place.{End, Plain, allowed, follow, listed}
 use Rattle.sexp.specs.Sexp.{Sexp, Stands}
 use Rattle.sexp.proofs.StandLaws.{stands-before}
 use Rattle.packet.specs.Written.{clause_sexp}
+use Rattle.room.specs.Files.{Files}
 use Rattle.room.specs.Frame.{binding_word, held, bindings_in}
 use Rattle.room.proofs.FrameLaws.{frame_pushed, push_kept, kept-below}
 use Rattle.room.proofs.NestLaws.{clause-nests}
 use Rattle.start.proofs.TableLaws.{table-allowed}
 use Rattle.room.proofs.WhereLaws.{booked-kept, push-keeps}
-use Rattle.uses.specs.Walk.{Files, Booked}
+use Rattle.uses.specs.Walk.{Booked}
 use Rattle.uses.specs.Use.{Left, Inner, Bound, Turns, Small, may_use, Binds, Following, Reaches, Followed}
 use Rattle.uses.specs.declared.uses.Turn.{Turn}
-use Rattle.uses.specs.declared.uses.Turn.TheVariants as T
 use Rattle.uses.specs.declared.uses.Reached.{Reached}
-use Rattle.uses.specs.declared.uses.Reached.TheVariants as R
 use Rattle.uses.proofs.HeadLaws.{part-stands, whole-stands-at}
 
 -- so many bytes before the end of a part is so many before the end of the whole
@@ -37,14 +38,14 @@ left-whole s i left e h =
       stands = subst (λ (j : ℕ). Stands s j e) (omega (arith, h.inside)) (whole-stands-at s i (length (drop i s) - left) h.stands);
     }
 
-pub reaches_whole : (s : List ℕ) (i : ℕ) (after : List ℕ) (us : List Term) (o : List Plain) (x y : Option (End Plain)) (base : ℕ) (r : Reached) → y ≡ x → Reaches (drop i s) after us o x base r → Reaches s after us o y base r
-reaches_whole s i after us o x y base R.Nothing e h = e ∙ h
-reaches_whole s i after us o x y base (R.At left top) e h =
+pub reaches_whole : (s : List ℕ) (i : ℕ) (after : List ℕ) (us : List Term) (o : List Plain) (x y : Option (End Plain)) (base : ℕ) (r : code.Option Reached) → y ≡ x → Reaches (drop i s) after us o x base r → Reaches s after us o y base r
+reaches_whole s i after us o x y base None e h = e ∙ h
+reaches_whole s i after us o x y base (Some r) e h =
     record {
       last = h.last;
       bindings = h.bindings;
       count = h.count;
-      stands = left-whole s i left (clause_sexp h.last) h.stands;
+      stands = left-whole s i r.left (clause_sexp h.last) h.stands;
       ends = h.ends;
       holds = h.holds;
       shallow = h.shallow;
@@ -56,10 +57,10 @@ module _ {f : Files} {clause strip room : List ℕ} {ds : List (Clause Plain)} {
   pub follow-shut : nest ≡ 0 → ⊥
   follow-shut e = omega (arith, clause-nests d, h.nests)
 
-  pub follow-none : Turns clause strip d path T.Nothing → follow (listed us) o d bs path ≡ none
+  pub follow-none : Turns clause strip d path None → follow (listed us) o d bs path ≡ none
   follow-none t = t us o bs h.booked.candidates.few
 
-  pub follow-ended : path ≡ [] → Reaches clause room us o (follow (listed us) o d bs path) base (R.At (length clause) top)
+  pub follow-ended : path ≡ [] → Reaches clause room us o (follow (listed us) o d bs path) base (Some (record { left = length clause; end = top }))
   follow-ended e =
       record {
         last = d;
@@ -89,10 +90,10 @@ module _ {f : Files} {clause strip room : List ℕ} {ds : List (Clause Plain)} {
         long = h.long;
       }
 
-  pub into-reached : {i next : ℕ} (x : Inner clause strip d path i next) (after : List ℕ) (r : Reached) → Reaches (drop i clause) after us o (follow (listed us) o x.inner bs x.rest) base r → Reaches clause after us o (follow (listed us) o d bs path) base r
+  pub into-reached : {i next : ℕ} (x : Inner clause strip d path i next) (after : List ℕ) (r : code.Option Reached) → Reaches (drop i clause) after us o (follow (listed us) o x.inner bs x.rest) base r → Reaches clause after us o (follow (listed us) o d bs path) base r
   into-reached {i} x after r = reaches_whole clause i after us o (follow (listed us) o x.inner bs x.rest) (follow (listed us) o d bs path) base r (x.same us o bs)
 
-  pub into-followed : {i next p : ℕ} → length o ≡ p → (nest ≡ 0 → ⊥) → Inner clause strip d path i next → (s : List ℕ) → s ≡ drop i clause → (after : List ℕ) (r : Reached) → Followed s strip room after next top p (nest - 1) r → Reaches clause after us o (follow (listed us) o d bs path) base r
+  pub into-followed : {i next p : ℕ} → length o ≡ p → (nest ≡ 0 → ⊥) → Inner clause strip d path i next → (s : List ℕ) → s ≡ drop i clause → (after : List ℕ) (r : code.Option Reached) → Followed s strip room after next top p (nest - 1) r → Reaches clause after us o (follow (listed us) o d bs path) base r
   into-followed {i} {next} {p} e z x s q after r k =
       into-reached x after r
       (subst (λ (t : List ℕ). Reaches t after us o (follow (listed us) o x.inner bs x.rest) base r) q
@@ -129,29 +130,29 @@ module _ {f : Files} {clause strip room : List ℕ} {ds : List (Clause Plain)} {
           long = omega (arith, ap length q, length-set room top (held (binding_word (Candidate n))), h.long);
         }
 
-    pub bound-reached : {room₁ : List ℕ} → Binds room room₁ top n p true → (after : List ℕ) (r : Reached) → Reaches (drop 6 clause) after us o (follow (listed us) o x.inner (Candidate n ∷ bs) x.rest) base r → Reaches clause after us o (follow (listed us) o d bs path) base r
+    pub bound-reached : {room₁ : List ℕ} → Binds room room₁ top n p true → (after : List ℕ) (r : code.Option Reached) → Reaches (drop 6 clause) after us o (follow (listed us) o x.inner (Candidate n ∷ bs) x.rest) base r → Reaches clause after us o (follow (listed us) o d bs path) base r
     bound-reached b after r =
         reaches_whole clause 6 after us o (follow (listed us) o x.inner (Candidate n ∷ bs) x.rest) (follow (listed us) o d bs path) base r
         (x.same us o bs ∙ ap (λ (t : Bool). provided t (follow (listed us) o x.inner (Candidate n ∷ bs) x.rest)) (sym may-is ∙ b.1.0))
 
-    pub bound-followed : {room₁ : List ℕ} → (nest ≡ 0 → ⊥) → n ≤ 999 → Binds room room₁ top n p true → (s : List ℕ) → s ≡ drop 6 clause → (after : List ℕ) (r : Reached) → Followed s strip room₁ after next (top + 1) p (nest - 1) r → Reaches clause after us o (follow (listed us) o d bs path) base r
+    pub bound-followed : {room₁ : List ℕ} → (nest ≡ 0 → ⊥) → n ≤ 999 → Binds room room₁ top n p true → (s : List ℕ) → s ≡ drop 6 clause → (after : List ℕ) (r : code.Option Reached) → Followed s strip room₁ after next (top + 1) p (nest - 1) r → Reaches clause after us o (follow (listed us) o d bs path) base r
     bound-followed {room₁} z l b s q after r k =
         bound-reached b after r
         (subst (λ (t : List ℕ). Reaches t after us o (follow (listed us) o x.inner (Candidate n ∷ bs) x.rest) base r) q
         (k f ds us o base (suc count) x.inner (Candidate n ∷ bs) x.rest e (subst (λ (t : List ℕ). Following f t strip room₁ ds us next (top + 1) (nest - 1) base (suc count) x.inner (Candidate n ∷ bs) x.rest) (sym q) (bound-following z l b))))
 
 -- an answer that is known
-pub turns_as : (clause strip : List ℕ) (d : Clause Plain) (path : List Step) (r t : Turn) → r ≡ t → Turns clause strip d path r → Turns clause strip d path t
-turns_as clause strip d path r t e h = subst (λ (x : Turn). Turns clause strip d path x) e h
+pub turns_as : (clause strip : List ℕ) (d : Clause Plain) (path : List Step) (r t : code.Option Turn) → r ≡ t → Turns clause strip d path r → Turns clause strip d path t
+turns_as clause strip d path r t e h = subst (λ (x : code.Option Turn). Turns clause strip d path x) e h
 
-pub small-as : (r t : Turn) → r ≡ t → Small r → Small t
+pub small-as : (r t : code.Option Turn) → r ≡ t → Small r → Small t
 small-as r t e h = subst Small e h
 
 pub binds-as : (room after : List ℕ) (top n p : ℕ) (r t : Bool) → r ≡ t → Binds room after top n p r → Binds room after top n p t
 binds-as room after top n p r t e h = subst (λ (x : Bool). Binds room after top n p x) e h
 
-pub reaches-as : (clause after : List ℕ) (us : List Term) (o : List Plain) (x : Option (End Plain)) (base : ℕ) (r t : Reached) → r ≡ t → Reaches clause after us o x base r → Reaches clause after us o x base t
-reaches-as clause after us o x base r t e h = subst (λ (y : Reached). Reaches clause after us o x base y) e h
+pub reaches-as : (clause after : List ℕ) (us : List Term) (o : List Plain) (x : Option (End Plain)) (base : ℕ) (r t : code.Option Reached) → r ≡ t → Reaches clause after us o x base r → Reaches clause after us o x base t
+reaches-as clause after us o x base r t e h = subst (λ (y : code.Option Reached). Reaches clause after us o x base y) e h
 
 -- what is below the top stays while a binding is pushed and the path followed on
 pub bound-kept : (room room₁ after : List ℕ) (top n p : ℕ) → Binds room room₁ top n p true → take (top + 1) after ≡ take (top + 1) room₁ → take top after ≡ take top room

@@ -1,4 +1,5 @@
 -- What a node other than `use` says at its own place: it fits exactly if the goal has its word, and the places of its parts (document 01, "When a strip fits").
+use Rattle.std.specs.Prelude.{Some, None, Option}
 use Prim.Native.Nat.{ℕ, suc, ◌+◌, ◌≤◌, ◌<◌}
 use native.Mathlib.Omega.{arith}
 use mathlib.Core.Path.{◌≡◌, refl, sym, ◌∙◌, ap, subst}
@@ -17,9 +18,10 @@ use Rattle.sexp.proofs.StandLaws.{first-stands, others-stand, stands-once, cons-
 use Rattle.packet.specs.Written.{word, one, two, number, goal_sexp, clause_sexp, strip_sexp}
 use Rattle.packet.specs.Offset.{width, offset_of}
 use Rattle.packet.specs.Barred.{goal_ok, clause_ok}
+use Rattle.room.specs.Files.{Files}
 use Rattle.room.specs.Layout.{words, supposed_at_most}
 use Rattle.room.specs.Spot.{supposing}
-use Rattle.uses.specs.Walk.{Files, Means, Ready, Part, Enters, further, within, bound, supposes}
+use Rattle.uses.specs.Walk.{Means, Ready, Part, Enters, further, within, bound, supposes}
 use Rattle.room.specs.declared.Where.{Where}
 use Rattle.room.proofs.WhereLaws.{file, part-means, push-keeps}
 use Rattle.room.proofs.MoveLaws.{bound-means, suppose-keeps, supposes-means}
@@ -85,32 +87,32 @@ module _ {f : Files} {ss room : List ℕ} {ds : List (Clause Plain)} {us : List 
         offsets = off;
       }
 
-abbrev Same : List ℕ → Files → List ℕ → List (Clause Plain) → List Term → Where → ℕ → Strip → Judged → Entered → Type 0
+abbrev Same : List ℕ → Files → List ℕ → List (Clause Plain) → List Term → Where → ℕ → Strip → Judged → Option Entered → Type 0
 Same room f ss ds us w at P j r = Enters f ss room room ds us w at P j r
 
 -- a node that does not fit, and changes nothing
-pub enters-misfit : {f : Files} {ss room : List ℕ} {ds : List (Clause Plain)} {us : List Term} {w : Where} {at : ℕ} {P : Strip} {j : Judged} → j ≡ here → Same room f ss ds us w at P j E.Misfit
+pub enters-misfit : {f : Files} {ss room : List ℕ} {ds : List (Clause Plain)} {us : List Term} {w : Where} {at : ℕ} {P : Strip} {j : Judged} → j ≡ here → Same room f ss ds us w at P j None
 enters-misfit e = record { kept = λ i l. refl; told = e }
 
 module _ {f : Files} {ss room : List ℕ} {ds : List (Clause Plain)} {us : List Term} {w : Where} {at nest : ℕ} {o : List Plain} {c : Hand Plain} {bs : Bindings} where
-  pub top-fits : Ready f ss room ds us w at nest Strip.top o c bs Goal.top → Same room f ss ds us w at Strip.top (check (listed us) Strip.top o c bs Goal.top) (E.Leaf (at + 7))
+  pub top-fits : Ready f ss room ds us w at nest Strip.top o c bs Goal.top → Same room f ss ds us w at Strip.top (check (listed us) Strip.top o c bs Goal.top) (Some (E.Leaf (at + 7)))
   top-fits r = record { kept = λ i l. refl; told = (refl, omega (arith, none-width (octets "top") heads.0)) }
 
-  pub left-fits : {X : Strip} {a b : Goal Plain} → Ready f ss room ds us w at nest (Strip.left X) o c bs (Goal.or a b) → Same room f ss ds us w at (Strip.left X) (check (listed us) (Strip.left X) o c bs (Goal.or a b)) (E.One (at + 7) (within w 5))
+  pub left-fits : {X : Strip} {a b : Goal Plain} → Ready f ss room ds us w at nest (Strip.left X) o c bs (Goal.or a b) → Same room f ss ds us w at (Strip.left X) (check (listed us) (Strip.left X) o c bs (Goal.or a b)) (Some (E.One (at + 7) (within w 5)))
   left-fits {X} {a} {b} r =
       record {
         kept = λ i l. refl;
         told = (X, check (listed us) X o c bs a, same-part r (at + 7) 5 0 X a (first_part (octets "left") heads.1.1.1.0 r.stands) (omega arith) (omega arith) (first_part (octets "or") heads.1.1.0 r.place.framed.stands) (omega arith) (both_true (goal_ok (length bs) a) (goal_ok (length bs) b) r.place.scoped).0 (λ pos. omega arith), refl, omega (arith, one_width (octets "left") heads.1.1.1.0 (strip_sexp X)));
       }
 
-  pub right-fits : {X : Strip} {a b : Goal Plain} {n : ℕ} → Ready f ss room ds us w at nest (Strip.right X) o c bs (Goal.or a b) → n ≡ 5 + width (goal_sexp a) → Same room f ss ds us w at (Strip.right X) (check (listed us) (Strip.right X) o c bs (Goal.or a b)) (E.One (at + 8) (within w n))
+  pub right-fits : {X : Strip} {a b : Goal Plain} {n : ℕ} → Ready f ss room ds us w at nest (Strip.right X) o c bs (Goal.or a b) → n ≡ 5 + width (goal_sexp a) → Same room f ss ds us w at (Strip.right X) (check (listed us) (Strip.right X) o c bs (Goal.or a b)) (Some (E.One (at + 8) (within w n)))
   right-fits {X} {a} {b} {n} r e =
       record {
         kept = λ i l. refl;
         told = (X, check (listed us) X o c bs b, same-part r (at + 8) n 0 X b (first_part (octets "right") heads.1.1.1.1.0 r.stands) (omega arith) (omega arith) (subst (λ (i : ℕ). Stands (file r.place) (w.goal.at + i) (goal_sexp b)) (sym e) (second-part (octets "or") heads.1.1.0 r.place.framed.stands)) (omega arith) (both_true (goal_ok (length bs) a) (goal_ok (length bs) b) r.place.scoped).1 (λ pos. omega arith), refl, omega (arith, one_width (octets "right") heads.1.1.1.1.0 (strip_sexp X)));
       }
 
-  pub and-fits : {X Y : Strip} {a b : Goal Plain} {n : ℕ} → Ready f ss room ds us w at nest (Strip.and X Y) o c bs (Goal.and a b) → n ≡ 6 + width (goal_sexp a) → Same room f ss ds us w at (Strip.and X Y) (check (listed us) (Strip.and X Y) o c bs (Goal.and a b)) (E.Two (at + 6) (within w 6) (within w n))
+  pub and-fits : {X Y : Strip} {a b : Goal Plain} {n : ℕ} → Ready f ss room ds us w at nest (Strip.and X Y) o c bs (Goal.and a b) → n ≡ 6 + width (goal_sexp a) → Same room f ss ds us w at (Strip.and X Y) (check (listed us) (Strip.and X Y) o c bs (Goal.and a b)) (Some (E.Two (at + 6) (within w 6) (within w n)))
   and-fits {X} {Y} {a} {b} {n} r e =
       let g = r.place.framed.stands in
       record {
@@ -133,7 +135,7 @@ module _ {f : Files} {ss room : List ℕ} {ds : List (Clause Plain)} {us : List 
   roomy : {P : Strip} {g : Goal Plain} → Ready f ss room ds us w at nest P o c bs g → (w.top < length room) × ((w.top ≤ words) × (w.supposed ≤ supposed_at_most))
   roomy {P} r = let z = strip-nests P in (omega (arith, r.nests, r.enough.bindings, r.long), (omega (arith, r.nests, r.enough.bindings), omega (arith, r.nests, r.enough.supposed)))
 
-  pub some_fits : {X : Strip} {i start : ℕ} {q : Plain} {a : Goal Plain} → Ready f ss room ds us w at nest (Strip.some i X) o c bs (Goal.some q a) → allowed (listed us) o q i ≡ true → start ≡ at + (7 + width (number i)) → Enters f ss room (set room w.top (held (binding_word (Candidate i)))) ds us w at (Strip.some i X) (check (listed us) (Strip.some i X) o c bs (Goal.some q a)) (E.One start (bound w 7 w.parameters))
+  pub some_fits : {X : Strip} {i start : ℕ} {q : Plain} {a : Goal Plain} → Ready f ss room ds us w at nest (Strip.some i X) o c bs (Goal.some q a) → allowed (listed us) o q i ≡ true → start ≡ at + (7 + width (number i)) → Enters f ss room (set room w.top (held (binding_word (Candidate i)))) ds us w at (Strip.some i X) (check (listed us) (Strip.some i X) o c bs (Goal.some q a)) (Some (E.One start (bound w 7 w.parameters)))
   some_fits {X} {i} {start} {q} {a} r ok e =
       let (inside, rest) = roomy r in
       let b = may-below (listed us) o q i (allowed-may (listed us) o q i ok) in
@@ -166,7 +168,7 @@ module _ {f : Files} {ss room : List ℕ} {ds : List (Clause Plain)} {us : List 
         );
       }
 
-  pub all-fits : {X : Strip} {q : Plain} {a : Goal Plain} → Ready f ss room ds us w at nest (Strip.all X) o c bs (Goal.all q a) → Enters f ss room (set room w.top (held (binding_word (Parameter (w.parameters + 1))))) ds us w at (Strip.all X) (check (listed us) (Strip.all X) o c bs (Goal.all q a)) (E.One (at + 6) (bound w 6 (w.parameters + 1)))
+  pub all-fits : {X : Strip} {q : Plain} {a : Goal Plain} → Ready f ss room ds us w at nest (Strip.all X) o c bs (Goal.all q a) → Enters f ss room (set room w.top (held (binding_word (Parameter (w.parameters + 1))))) ds us w at (Strip.all X) (check (listed us) (Strip.all X) o c bs (Goal.all q a)) (Some (E.One (at + 6) (bound w 6 (w.parameters + 1))))
   all-fits {X} {q} {a} r =
       let (inside, rest) = roomy r in
       let here' = r.place in
@@ -199,7 +201,7 @@ module _ {f : Files} {ss room : List ℕ} {ds : List (Clause Plain)} {us : List 
         );
       }
 
-  pub imp-fits : {X : Strip} {d : Clause Plain} {a : Goal Plain} {n : ℕ} → Ready f ss room ds us w at nest (Strip.imp X) o c bs (Goal.imp d a) → n ≡ 6 + width (clause_sexp d) → Enters f ss room (supposing room w.supposed (further w.goal 6)) ds us w at (Strip.imp X) (check (listed us) (Strip.imp X) o c bs (Goal.imp d a)) (E.One (at + 6) (supposes w n))
+  pub imp-fits : {X : Strip} {d : Clause Plain} {a : Goal Plain} {n : ℕ} → Ready f ss room ds us w at nest (Strip.imp X) o c bs (Goal.imp d a) → n ≡ 6 + width (clause_sexp d) → Enters f ss room (supposing room w.supposed (further w.goal 6)) ds us w at (Strip.imp X) (check (listed us) (Strip.imp X) o c bs (Goal.imp d a)) (Some (E.One (at + 6) (supposes w n)))
   imp-fits {X} {d} {a} {n} r e =
       let (inside, rest) = roomy r in
       let here' = r.place in

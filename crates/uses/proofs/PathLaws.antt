@@ -1,4 +1,5 @@
 -- A path that takes a clause apart from outside (document 01, "When a strip fits"): what its next step does to a clause, where both stand in bytes.
+use Rattle.std.specs.Prelude.{None, Option}
 use Prim.Native.Nat.{ℕ, ◌+◌, ◌≤◌, ◌<◌}
 use native.Mathlib.Omega.{arith}
 use mathlib.Core.Path.{◌≡◌, refl, sym, ◌∙◌, ap, subst}
@@ -28,7 +29,6 @@ use Rattle.packet.specs.Offset.{width}
 use Rattle.room.specs.Layout.{levels}
 use Rattle.uses.specs.Use.{Inner, Bound, Turns, AtAnd, AtAll}
 use Rattle.uses.specs.declared.uses.Turn.{Turn}
-use Rattle.uses.specs.declared.uses.Turn.TheVariants as T
 use Rattle.uses.proofs.NodeLaws.{heads, first_part, second-part, ends_is}
 
 -- whether a list closes at an offset, by the code's test
@@ -98,7 +98,7 @@ module _ (clause strip : List ℕ) (at next : ℕ) (c d : Clause Plain) (path : 
       }
   and_right (Step.n j) i k h e w x = absurd (no_number j 114 [] (omega arith) (string-once w (first-stands h)))
 
-  pub and-neither : (s : Step) → StandsAll strip at (each step_sexp (s ∷ path)) → (Stands strip at (Sexp.str (octets "l")) → ⊥) → (Stands strip at (Sexp.str (octets "r")) → ⊥) → Turns clause strip (Clause.and_d c d) (s ∷ path) T.Nothing
+  pub and-neither : (s : Step) → StandsAll strip at (each step_sexp (s ∷ path)) → (Stands strip at (Sexp.str (octets "l")) → ⊥) → (Stands strip at (Sexp.str (octets "r")) → ⊥) → Turns clause strip (Clause.and_d c d) (s ∷ path) None
   and-neither Step.l h n m = absurd (n (first-stands h))
   and-neither Step.r h n m = absurd (m (first-stands h))
   and-neither (Step.n i) h n m = λ us o bs l. refl
@@ -124,7 +124,7 @@ module _ (clause strip : List ℕ) (at next : ℕ) (q : Plain) (d : Clause Plain
         same = λ us o bs. ap (λ (j : ℕ). provided (allowed (listed us) o q j) (follow (listed us) o d (Candidate j ∷ bs) path)) (sym (number-agrees w (first-stands h)));
       }
 
-  pub all_none : (s : Step) → StandsAll strip at (each step_sexp (s ∷ path)) → ((w : List ℕ) → Stands strip at (Sexp.str w) → is_number w ≡ true → ⊥) → Turns clause strip (Clause.all_d q d) (s ∷ path) T.Nothing
+  pub all_none : (s : Step) → StandsAll strip at (each step_sexp (s ∷ path)) → ((w : List ℕ) → Stands strip at (Sexp.str w) → is_number w ≡ true → ⊥) → Turns clause strip (Clause.all_d q d) (s ∷ path) None
   all_none Step.l h n = λ us o bs l. refl
   all_none Step.r h n = λ us o bs l. refl
   all_none (Step.n i) h n = λ us o bs l. rw (beyond-none us i (omega (arith, far-number (first-stands h) n, l)), allowed) refl
@@ -133,7 +133,7 @@ module _ (clause strip : List ℕ) (at next : ℕ) (q : Plain) (d : Clause Plain
 pub clause-word : (clause w v : List ℕ) (xs : Sexps) → Stands clause 0 (word v xs) → Stands clause 1 (Sexp.str w) → get_or w 1 0 ≡ get_or v 1 0
 clause-word clause w v xs h g = ap (λ (x : List ℕ). get_or x 1 0) (string-once g (first-stands (members-stand h)))
 
-module _ (clause strip : List ℕ) (at next : ℕ) (r : Turn) where
+module _ (clause strip : List ℕ) (at next : ℕ) (r : Option Turn) where
   -- the next step of a path, at a clause that begins with `and`, with `all`, or with neither
   pub turn-and : (d : Clause Plain) (path : List Step) → (get_or strip at 0 ≡ 41 → ⊥) → Ends strip at 0 next → Stands clause 1 (Sexp.str (octets "and")) → AtAnd clause strip at next r → Stands clause 0 (clause_sexp d) → nesting (clause_sexp d) ≤ levels → StandsAll strip at (each step_sexp path) → Turns clause strip d path r
   turn-and (Clause.atom_d (Atom.atom p ts)) path n x w t k l h = absurd (omega (arith, clause-word clause (octets "and") (octets "atom") _ k w))
@@ -149,7 +149,7 @@ module _ (clause strip : List ℕ) (at next : ℕ) (r : Turn) where
   turn-all (Clause.all_d q d) [] n x w t k h = absurd (n (none-closes h))
   turn-all (Clause.all_d q d) (s ∷ path) n x w t k h = t clause q d s path k h (ends_is (first-stands h) x)
 
-pub turn-neither : (clause strip : List ℕ) (at : ℕ) (d : Clause Plain) (path : List Step) → (get_or strip at 0 ≡ 41 → ⊥) → (Stands clause 1 (Sexp.str (octets "and")) → ⊥) → (Stands clause 1 (Sexp.str (octets "all")) → ⊥) → Stands clause 0 (clause_sexp d) → StandsAll strip at (each step_sexp path) → Turns clause strip d path T.Nothing
+pub turn-neither : (clause strip : List ℕ) (at : ℕ) (d : Clause Plain) (path : List Step) → (get_or strip at 0 ≡ 41 → ⊥) → (Stands clause 1 (Sexp.str (octets "and")) → ⊥) → (Stands clause 1 (Sexp.str (octets "all")) → ⊥) → Stands clause 0 (clause_sexp d) → StandsAll strip at (each step_sexp path) → Turns clause strip d path None
 turn-neither clause strip at (Clause.atom_d a) [] n u v k h = absurd (n (none-closes h))
 turn-neither clause strip at (Clause.atom_d a) (s ∷ path) n u v k h = λ us o bs l. refl
 turn-neither clause strip at (Clause.imp_d g a) [] n u v k h = absurd (n (none-closes h))

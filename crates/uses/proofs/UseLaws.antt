@@ -1,5 +1,7 @@
 -- The node `use` at its place (document 01, "When a strip fits"): from the clause that is opened over the path that is followed to what the node says, and that what the
 -- place relies on is kept.
+use Rattle.std.specs.Prelude as code
+use Rattle.std.specs.Prelude.{None}
 use Prim.Native.Nat.{ℕ, ◌+◌, ◌-◌, ◌≤◌, ◌<◌}
 use native.Mathlib.Omega.{arith}
 use mathlib.Core.Path.{◌≡◌, refl, sym, ◌∙◌, ap, ap₂, subst}
@@ -25,17 +27,16 @@ use Rattle.packet.specs.declared.Word.{Word}
 use Rattle.packet.specs.declared.Word.TheVariants as W
 use Rattle.room.specs.Layout.{supposed_at_most, stack}
 use Rattle.room.specs.Frame.{bindings_in}
-use Rattle.room.specs.Spot.{file_of}
+use Rattle.room.specs.Files.{Files, file_of}
 use Rattle.room.specs.declared.Spot.{Spot}
 use Rattle.room.specs.declared.Where.{Where}
 use Rattle.room.proofs.FrameLaws.{word_kept, kept-below}
 use Rattle.room.proofs.WhereLaws.{booked-kept, means-kept}
 use Rattle.uses.specs.Heads.{strip_word, NodeShape}
-use Rattle.uses.specs.Walk.{Files, Live, Kept, Means, Ready, Told, Enters}
+use Rattle.uses.specs.Walk.{Live, Kept, Means, Ready, Told, Enters}
 use Rattle.uses.specs.Use.{use_of, concluded, matched, Left, Following, Ending, Using, AtEnd, use_says, Asks, Inside}
 use Rattle.uses.specs.declared.uses.Asked.{Asked}
 use Rattle.uses.specs.declared.Entered.{Entered}
-use Rattle.uses.specs.declared.Entered.TheVariants as E
 use Rattle.uses.proofs.HeadLaws.{node-shape, part-stands}
 use Rattle.uses.proofs.WalkLaws.{strip-nests}
 use Rattle.uses.proofs.PathLaws.{clause-word}
@@ -86,7 +87,7 @@ module _ {f : Files} {ss room : List ℕ} {ds : List (Clause Plain)} {us : List 
   using_kept after e = take-kept room after w.supposed w.top u.few (omega (arith, u.place.framed.above, u.place.framed.below)) e
 
   -- no clause at hand has the number
-  pub use-none : (after : List ℕ) → after ≡ room → get_elem? c k ≡ none → Enters f ss room after ds us w at (use_of k steps more) (use_says us o c bs a k steps more) E.Misfit
+  pub use-none : (after : List ℕ) → after ≡ room → get_elem? c k ≡ none → Enters f ss room after ds us w at (use_of k steps more) (use_says us o c bs a k steps more) None
   use-none after e n =
       record {
         kept = λ i l. ap (λ (r : List ℕ). get_or r i 0) e;
@@ -97,7 +98,7 @@ module _ {f : Files} {ss room : List ℕ} {ds : List (Clause Plain)} {us : List 
 
   module _ {room₁ : List ℕ} {y : Spot} (p : OpenAt f room room₁ w c k y) where
     -- the clause is opened: its path is followed in the new frame
-    pub open-following : (s : List ℕ) → s ≡ drop y.at (file_of f.rules f.goal f.terms y.source) → Following f s ss room₁ ds us (path + 1) (y.base + y.count) 64 y.base y.count p.hand.clause p.hand.bindings steps
+    pub open-following : (s : List ℕ) → s ≡ drop y.at (file_of f y.source) → Following f s ss room₁ ds us (path + 1) (y.base + y.count) 64 y.base y.count p.hand.clause p.hand.bindings steps
     open-following s e =
         let l = p.clause.shallow in
         let b = p.fresh in
@@ -122,7 +123,7 @@ module _ {f : Files} {ss room : List ℕ} {ds : List (Clause Plain)} {us : List 
       open_kept = using_kept room₂ (kept-below room₂ room₁ w.top (y.base + y.count) t (omega (arith, p.fresh)) ∙ p.kept)
 
       -- the path ends nowhere
-      pub use-lost : follow (listed us) o p.hand.clause p.hand.bindings steps ≡ none → Enters f ss room room₂ ds us w at (use_of k steps more) (use_says us o c bs a k steps more) E.Misfit
+      pub use-lost : follow (listed us) o p.hand.clause p.hand.bindings steps ≡ none → Enters f ss room room₂ ds us w at (use_of k steps more) (use_says us o c bs a k steps more) None
       use-lost n =
           record {
             kept = open_kept;
@@ -130,17 +131,17 @@ module _ {f : Files} {ss room : List ℕ} {ds : List (Clause Plain)} {us : List 
           }
 
       -- it ends at a clause, whose spot the code makes
-      module _ {s : List ℕ} (q : s ≡ drop y.at (file_of f.rules f.goal f.terms y.source)) {left end : ℕ} (z : Ending s room₂ us o (follow (listed us) o p.hand.clause p.hand.bindings steps) y.base left end) where
-        left_there : Left (file_of f.rules f.goal f.terms y.source) left (clause_sexp z.last)
-        left_there = left-whole (file_of f.rules f.goal f.terms y.source) y.at left (clause_sexp z.last) (subst (λ (r : List ℕ). Left r left (clause_sexp z.last)) q z.stands)
+      module _ {s : List ℕ} (q : s ≡ drop y.at (file_of f y.source)) {left end : ℕ} (z : Ending s room₂ us o (follow (listed us) o p.hand.clause p.hand.bindings steps) y.base left end) where
+        left_there : Left (file_of f y.source) left (clause_sexp z.last)
+        left_there = left-whole (file_of f y.source) y.at left (clause_sexp z.last) (subst (λ (r : List ℕ). Left r left (clause_sexp z.last)) q z.stands)
 
-        pub left-inside : (n : ℕ) → n ≡ length (file_of f.rules f.goal f.terms y.source) → left ≤ n
+        pub left-inside : (n : ℕ) → n ≡ length (file_of f y.source) → left ≤ n
         left-inside n e = omega (arith, left_there.inside)
 
         pub end-above : w.top ≤ end
         end-above = omega (arith, p.fresh, z.ends)
 
-        pub use-end : (n : ℕ) → n ≡ length (file_of f.rules f.goal f.terms y.source) → length room₂ ≡ length room₁ → AtEnd f ss room₂ ds us w at path k steps more o c bs a (record { source = y.source; at = n - left; base = w.top; count = end - w.top }) end z.last z.bindings
+        pub use-end : (n : ℕ) → n ≡ length (file_of f y.source) → length room₂ ≡ length room₁ → AtEnd f ss room₂ ds us w at path k steps more o c bs a (record { source = y.source; at = n - left; base = w.top; count = end - w.top }) end z.last z.bindings
         use-end n e l =
             let b = p.fresh in
             let m = z.ends in
@@ -157,7 +158,7 @@ module _ {f : Files} {ss room : List ℕ} {ds : List (Clause Plain)} {us : List 
                   };
               clause =
                   record {
-                    stands = subst (λ (i : ℕ). Stands (file_of f.rules f.goal f.terms y.source) (i - left) (clause_sexp z.last)) (sym e) left_there.stands;
+                    stands = subst (λ (i : ℕ). Stands (file_of f y.source) (i - left) (clause_sexp z.last)) (sym e) left_there.stands;
                     below = omega arith;
                     holds = ap₂ (bindings_in room₂) (sym b) counts ∙ z.holds;
                     shallow = omega arith;
@@ -167,7 +168,7 @@ module _ {f : Files} {ss room : List ℕ} {ds : List (Clause Plain)} {us : List 
               ends = omega arith;
             }
 
-        pub use-says : {r : Entered} → Told f ss room₂ ds us w at (use_of k steps more) (concluded (listed us) o c more (matched us bs a (follow (listed us) o z.last z.bindings []))) r → Enters f ss room room₂ ds us w at (use_of k steps more) (use_says us o c bs a k steps more) r
+        pub use-says : {r : code.Option Entered} → Told f ss room₂ ds us w at (use_of k steps more) (concluded (listed us) o c more (matched us bs a (follow (listed us) o z.last z.bindings []))) r → Enters f ss room room₂ ds us w at (use_of k steps more) (use_says us o c bs a k steps more) r
         use-says {r} h =
             record {
               kept = open_kept;
@@ -175,11 +176,11 @@ module _ {f : Files} {ss room : List ℕ} {ds : List (Clause Plain)} {us : List 
             }
 
 -- what is asked for, where the answer is known
-pub asks-as : (ss : List ℕ) (at k : ℕ) (r t : Asked) → r ≡ t → Asks ss at k r → Asks ss at k t
-asks-as ss at k r t e h = subst (λ (x : Asked). Asks ss at k x) e h
+pub asks-as : (ss : List ℕ) (at k : ℕ) (r t : code.Option Asked) → r ≡ t → Asks ss at k r → Asks ss at k t
+asks-as ss at k r t e h = subst (λ (x : code.Option Asked). Asks ss at k x) e h
 
-pub inside-as : (ss : List ℕ) (r t : Asked) → r ≡ t → Inside ss r → Inside ss t
-inside-as ss r t e h = subst (λ (x : Asked). Inside ss x) e h
+pub inside-as : (ss : List ℕ) (r t : code.Option Asked) → r ≡ t → Inside ss r → Inside ss t
+inside-as ss r t e h = subst (λ (x : code.Option Asked). Inside ss x) e h
 
 -- whether the goal is an atom, by its word
 module _ (file s : List ℕ) (at : ℕ) (p : s ≡ drop at file) where
@@ -210,7 +211,7 @@ module _ {f : Files} {ss room : List ℕ} {ds : List (Clause Plain)} {us : List 
 
   module _ (k : ℕ) (steps : List Step) (more : Option Strip) (q : P ≡ use_of k steps more) where
     -- a `use` that does not fit, and changes nothing
-    use-misfit : used (listed us) o c bs g k steps ≡ none → Enters f ss room room ds us w at P (check (listed us) P o c bs g) E.Misfit
+    use-misfit : used (listed us) o c bs g k steps ≡ none → Enters f ss room room ds us w at P (check (listed us) P o c bs g) None
     use-misfit n =
         record {
           kept = λ i l. refl;
@@ -219,10 +220,10 @@ module _ {f : Files} {ss room : List ℕ} {ds : List (Clause Plain)} {us : List 
               ∙ (use-check us o c bs g k steps more ∙ (ap (concluded (listed us) o c more) n ∙ shut_none us o c more));
         }
 
-    pub enter-far : 999 < k → Enters f ss room room ds us w at P (check (listed us) P o c bs g) E.Misfit
+    pub enter-far : 999 < k → Enters f ss room room ds us w at P (check (listed us) P o c bs g) None
     enter-far l = use-misfit (no-clause us o c bs g k steps (beyond-none c k (omega (arith, ready.place.hand.number, ready.place.booked.rules.few, few-clauses))))
 
-    pub enter-other : as_atom g ≡ none → Enters f ss room room ds us w at P (check (listed us) P o c bs g) E.Misfit
+    pub enter-other : as_atom g ≡ none → Enters f ss room room ds us w at P (check (listed us) P o c bs g) None
     enter-other e = use-misfit (no-atom us o c bs g k steps e)
 
     pub use-stands : Stands ss at (strip_sexp (use_of k steps more))
@@ -240,7 +241,7 @@ module _ {f : Files} {ss room : List ℕ} {ds : List (Clause Plain)} {us : List 
             long = omega (arith, ready.nests, strip-nests P, ready.enough.bindings, ready.long);
           }
 
-      pub enter-used : {after : List ℕ} {r : Entered} → Enters f ss room after ds us w at (use_of k steps more) (use_says us o c bs a k steps more) r → Enters f ss room after ds us w at P (check (listed us) P o c bs g) r
+      pub enter-used : {after : List ℕ} {r : code.Option Entered} → Enters f ss room after ds us w at (use_of k steps more) (use_says us o c bs a k steps more) r → Enters f ss room after ds us w at P (check (listed us) P o c bs g) r
       enter-used {after} {r} h =
           subst (λ (R : Strip). Enters f ss room after ds us w at R (check (listed us) R o c bs g) r) (sym q)
           (subst (λ (h : Goal Plain). Enters f ss room after ds us w at (use_of k steps more) (check (listed us) (use_of k steps more) o c bs h) r) (sym e)

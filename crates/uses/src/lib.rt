@@ -6,18 +6,18 @@ mod uses;
 use room::Where;
 pub use uses::enter_use;
 
-// What a node says at its own place: it does not fit; it fits and ends before an offset; it fits, and its part or parts begin at an offset, at these places.
+// What a node that fits says at its own place: it ends before an offset; or its part or parts begin at an offset, at these places.
 #[derive(Clone, Copy)]
 pub enum Entered {
-    Misfit,
     Leaf(usize),
     One(usize, Where),
     Two(usize, Where, Where),
 }
 
-// What a node and all its parts come to: they fit and end before an offset, with this height and so many nodes; or the first misfit's place.
+// What a node that fits comes to with all its parts: the offset that it ends before, its height and its number of nodes.
 #[derive(Clone, Copy)]
-pub enum Outcome {
-    Fits(usize, usize, usize),
-    Misfit(usize),
+pub struct Fit {
+    pub next: usize,
+    pub height: usize,
+    pub nodes: usize,
 }

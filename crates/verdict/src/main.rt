@@ -2,23 +2,20 @@
 #![tactic(auto)]
 
 use judge::Verdict;
-use programs::{load, say, say_number, say_refused};
+use programs::{RefusalNumbers, loaded};
 use std::io;
 
+// What cannot be printed is left out.
+// Kept: an `impl Display` of the verdict would stand in crate `judge`, which prints nothing.
 fn show(out: &impl Print, v: Verdict) {
-    match v {
-        Verdict::Accepted { height, nodes } => {
-            say(out, b"accepted");
-            say_number(out, height as u64);
-            say_number(out, nodes as u64);
-        }
+    let _ = match v {
+        Verdict::Accepted { height, nodes } => println!(out; "accepted {height} {nodes}"),
         Verdict::Refused {
             reason,
             file,
             place,
-        } => say_refused(out, reason, file, place),
-    }
-    say(out, b"\n");
+        } => out.println(RefusalNumbers::new(reason, file, place)),
+    };
 }
 
 fn main(rt: HostRuntime) -> io::Result<()> {
@@ -27,13 +24,10 @@ fn main(rt: HostRuntime) -> io::Result<()> {
     let mut terms = [0u8; 16385];
     let mut strip = [0u8; 16385];
     let mut room = [0u32; 8192];
-    let r = load(&rt, b"rules.sx", &mut rules)?;
-    let g = load(&rt, b"goal.sx", &mut goal)?;
-    let t = load(&rt, b"terms.sx", &mut terms)?;
-    let s = load(&rt, b"strip.sx", &mut strip)?;
-    show(
-        &rt,
-        judge::judge(&rules[..r], &goal[..g], &terms[..t], &strip[..s], &mut room),
-    );
+    let rules = loaded(&rt, b"rules.sx", &mut rules)?;
+    let goal = loaded(&rt, b"goal.sx", &mut goal)?;
+    let terms = loaded(&rt, b"terms.sx", &mut terms)?;
+    let strip = loaded(&rt, b"strip.sx", &mut strip)?;
+    show(&rt, judge::judge(rules, goal, terms, strip, &mut room));
     Ok(())
 }

@@ -1,138 +1,112 @@
 // The walk down the strip: each node judged at its own place, then its parts at theirs (document 01, "When a strip fits").
-ghost use Rattle.std.specs.Prelude.{◌≡◌, List, ℕ, ◌+◌, ◌≤◌, ◌<◌, max, length};
-ghost use Rattle.uses.specs.Walk.{Entering, Judging, Bounded, files_of};
-ghost use Rattle.uses.specs.declared.Outcome.{Outcome};
+ghost use Rattle.std.specs.Prelude.{◌≡◌, ◌+◌, ◌≤◌, ◌<◌, ℕ, length};
+ghost use Rattle.uses.specs.Walk.{Entering, Judging, Bounded, fitting};
 
-use enter::{
-    enter_all, enter_and, enter_imp, enter_left, enter_right, enter_some, enter_top, rank,
-};
+use enter::{enter_all, enter_and, enter_imp, enter_left, enter_right, enter_some, enter_top};
+use packet::Word;
 use places::plus;
 use reader::word_at;
-use room::Where;
-use uses::{Entered, Outcome, enter_use};
+use room::{Files, Where};
+use uses::{Entered, Fit, enter_use};
 
-// A node judged at its own place, by its word.
-fn enter<'a>(
-    rules: &'a [u8],
-    goal: &'a [u8],
-    terms: &'a [u8],
+// A node judged at its own place, by its word; nothing, if it does not fit.
+fn enter(
+    files: &Files,
     strip: &[u8],
     at: usize,
     room: &mut [u32],
     w: Where,
     nest: usize,
-) -> Entered
-    ensures { Entering (files_of rules.now goal.now terms.now) strip.now room.old room.new at w nest result }
+) -> Option<Entered>
+    ensures { Entering files.now strip.now room.old room.new at w nest result }
 {
-    let word = rank(word_at(strip, plus(at, 1)));
-    if word == 4 {
-        return enter_top(rules, goal, terms, at, w);
+    match word_at(strip, plus(at, 1)) {
+        Word::Top => enter_top(files, at, w),
+        Word::And => enter_and(files, at, w),
+        Word::Some => enter_some(files, strip, at, room, w),
+        Word::All => enter_all(files, at, room, w),
+        Word::Imp => enter_imp(files, at, room, w),
+        Word::Left => enter_left(files, at, w),
+        Word::Right => enter_right(files, at, w),
+        Word::Use => enter_use(files, strip, at, room, w, nest),
+        _ => None,
     }
-    if word == 5 {
-        return enter_and(rules, goal, terms, at, w);
-    }
-    if word == 7 {
-        return enter_some(rules, goal, terms, strip, at, room, w);
-    }
-    if word == 8 {
-        return enter_all(rules, goal, terms, at, room, w);
-    }
-    if word == 9 {
-        return enter_imp(rules, goal, terms, at, room, w);
-    }
-    if word == 10 {
-        return enter_left(rules, goal, terms, at, w);
-    }
-    if word == 11 {
-        return enter_right(rules, goal, terms, at, w);
-    }
-    if word == 12 {
-        return enter_use(rules, goal, terms, strip, at, room, w, nest);
-    }
-    Entered::Misfit
 }
 
-// A node whose parts end at `next`, where its closing parenthesis stands.
-fn close(size: usize, at: usize, next: usize, height: usize, nodes: usize, nest: usize) -> Outcome
+// A node whose parts end before its closing parenthesis, with the height of the highest and the nodes of all.
+fn close(size: usize, at: usize, parts: Fit, nest: usize) -> Result<Fit, usize>
     ensures sure { Bounded size at nest result }
-    ensures closed { next < size → at + nodes ≤ next → height < nest → result ≡ Outcome.Fits (next + 1) (height + 1) (nodes + 1) }
+    ensures closed { parts.next < size → at + parts.nodes ≤ parts.next → parts.height < nest → result ≡ fitting (parts.next + 1) (parts.height + 1) (parts.nodes + 1) }
 {
-    if size <= next {
-        return Outcome::Misfit(at);
+    if size <= parts.next {
+        return Err(at);
     }
-    if next < at {
-        return Outcome::Misfit(at);
+    if parts.next < at {
+        return Err(at);
     }
-    if next - at < nodes {
-        return Outcome::Misfit(at);
+    if parts.next - at < parts.nodes {
+        return Err(at);
     }
-    if nest <= height {
-        return Outcome::Misfit(at);
+    if nest <= parts.height {
+        return Err(at);
     }
-    Outcome::Fits(next + 1, height + 1, nodes + 1)
+    Ok(Fit {
+        next: parts.next + 1,
+        height: parts.height + 1,
+        nodes: parts.nodes + 1,
+    })
 }
 
-fn higher(a: usize, b: usize) -> usize
-    ensures { result ≡ max a b }
-{
-    if a < b { b } else { a }
-}
-
-pub fn node<'a>(
-    rules: &'a [u8],
-    goal: &'a [u8],
-    terms: &'a [u8],
+// A node with all its parts: what it comes to, or the offset of the first node that does not fit.
+// Kept: strip, offset, room and place stay apart; offset and place are others at each part, and a struct of the four would be taken apart and made anew at each call.
+pub fn node(
+    files: &Files,
     strip: &[u8],
     at: usize,
     room: &mut [u32],
     w: Where,
     nest: usize,
-) -> Outcome
+) -> Result<Fit, usize>
     ensures sure { Bounded (length strip.now) at nest result }
-    ensures judged { Judging (files_of rules.now goal.now terms.now) strip.now room.old room.new at w nest result }
+    ensures judged { Judging files.now strip.now room.old room.new at w nest result }
 {
     if nest == 0 {
-        return Outcome::Misfit(at);
+        return Err(at);
     }
-    let e = enter(rules, goal, terms, strip, at, room, w, nest);
-    match e {
-        Entered::Misfit => Outcome::Misfit(at),
-        Entered::Leaf(next) => leaf(strip.len(), at, next),
-        Entered::One(start, part) => {
-            let one = node(rules, goal, terms, strip, start, room, part, nest - 1);
-            match one {
-                Outcome::Misfit(o) => Outcome::Misfit(o),
-                Outcome::Fits(next, h, m) => close(strip.len(), at, next, h, m, nest),
-            }
+    match enter(files, strip, at, room, w, nest) {
+        None => Err(at),
+        Some(Entered::Leaf(next)) => leaf(strip.len(), at, next),
+        Some(Entered::One(start, part)) => {
+            let one = node(files, strip, start, room, part, nest - 1)?;
+            close(strip.len(), at, one, nest)
         }
-        Entered::Two(start, first, second) => {
-            let one = node(rules, goal, terms, strip, start, room, first, nest - 1);
-            match one {
-                Outcome::Misfit(o) => Outcome::Misfit(o),
-                Outcome::Fits(mid, h, m) => {
-                    let two = node(rules, goal, terms, strip, mid, room, second, nest - 1);
-                    match two {
-                        Outcome::Misfit(o) => Outcome::Misfit(o),
-                        Outcome::Fits(next, i, k) => {
-                            close(strip.len(), at, next, higher(h, i), m + k, nest)
-                        }
-                    }
-                }
-            }
+        Some(Entered::Two(start, first, second)) => {
+            let one = node(files, strip, start, room, first, nest - 1)?;
+            let two = node(files, strip, one.next, room, second, nest - 1)?;
+            let both = Fit {
+                next: two.next,
+                height: one.height.max(two.height),
+                nodes: one.nodes + two.nodes,
+            };
+            close(strip.len(), at, both, nest)
         }
     }
 }
 
 // A node without parts that ends before `next`.
-fn leaf(size: usize, at: usize, next: usize) -> Outcome
+fn leaf(size: usize, at: usize, next: usize) -> Result<Fit, usize>
     ensures sure { (nest : ℕ) → 0 < nest → Bounded size at nest result }
-    ensures ends { next ≤ size → at < next → result ≡ Outcome.Fits next 1 1 }
+    ensures ends { next ≤ size → at < next → result ≡ fitting next 1 1 }
 {
     if size < next {
-        return Outcome::Misfit(at);
+        return Err(at);
     }
     if next <= at {
-        return Outcome::Misfit(at);
+        return Err(at);
     }
-    Outcome::Fits(next, 1, 1)
+    Ok(Fit {
+        next,
+        height: 1,
+        nodes: 1,
+    })
 }

@@ -6,13 +6,13 @@ use Rattle.tptp.proofs.TrueLaws.{written-inside}
 use Rattle.book.proofs.answer.Goals as goal
 
 pub slice_bounds-save-end : goal.slice_bounds-save-end
-slice_bounds-save-end c = let k = c.tptp in let l = written-inside k.ensures c.in-Written.r c.in-Written.g c.in-Written.is in let q = k.auto.rules in omega (arith, l.0)
+slice_bounds-save-end c = let k = c.tptp in let l = written-inside k.ensures c.in-Ok.field-0.rules c.in-Ok.field-0.goal c.in-Ok.is in let q = k.auto.rules in omega (arith, l.0)
 
-pub slice_bounds-save-end-in-Written : goal.slice_bounds-save-end-in-Written
-slice_bounds-save-end-in-Written c = let k = c.tptp in let l = written-inside k.ensures c.in-Written.r c.in-Written.g c.in-Written.is in let q = k.auto.rules in sym (length-take-le c.in-Written.r k.new.rules (omega (arith, l.0)))
+pub slice_bounds-save-end-in-Ok : goal.slice_bounds-save-end-in-Ok
+slice_bounds-save-end-in-Ok c = let k = c.tptp in let l = written-inside k.ensures c.in-Ok.field-0.rules c.in-Ok.field-0.goal c.in-Ok.is in let q = k.auto.rules in sym (length-take-le c.in-Ok.field-0.rules k.new.rules (omega (arith, l.0)))
 
-pub slice_bounds-save-end-in-Written-2 : goal.slice_bounds-save-end-in-Written-2
-slice_bounds-save-end-in-Written-2 c = let k = c.tptp in let l = written-inside k.ensures c.in-Written.r c.in-Written.g c.in-Written.is in let q = k.auto.goal in omega (arith, l.1)
+pub slice_bounds-save-end-in-Ok-2 : goal.slice_bounds-save-end-in-Ok-2
+slice_bounds-save-end-in-Ok-2 c = let k = c.tptp in let l = written-inside k.ensures c.in-Ok.field-0.rules c.in-Ok.field-0.goal c.in-Ok.is in let q = k.auto.goal in omega (arith, l.1)
 
-pub slice_bounds-save-end-in-Written-3 : goal.slice_bounds-save-end-in-Written-3
-slice_bounds-save-end-in-Written-3 c = let k = c.tptp in let l = written-inside k.ensures c.in-Written.r c.in-Written.g c.in-Written.is in let q = k.auto.goal in sym (length-take-le c.in-Written.g k.new.goal (omega (arith, l.1)))
+pub slice_bounds-save-end-in-Ok-3 : goal.slice_bounds-save-end-in-Ok-3
+slice_bounds-save-end-in-Ok-3 c = let k = c.tptp in let l = written-inside k.ensures c.in-Ok.field-0.rules c.in-Ok.field-0.goal c.in-Ok.is in let q = k.auto.goal in sym (length-take-le c.in-Ok.field-0.goal k.new.goal (omega (arith, l.1)))

@@ -5,17 +5,17 @@ use Rattle.sexp.proofs.OntoLaws.{spell-some}
 use Rattle.sexp.proofs.AnswerLaws.{plain-span, plain-inside}
 use native.Mathlib.Omega.{arith}
 use Rattle.carrier_cases.proofs.string.Goals as goal
-use Rattle.carrier_cases.proofs.string.Goals.{In-Span}
+use Rattle.carrier_cases.proofs.string.Goals.{In-Some}
 
 -- the string that was read
-string-known : (c : In-Span) → Plain c.args.s.now c.args.at c.in-Span.from c.in-Span.n
-string-known c = plain-span c.in-Span.is c.plain.ensures
+string-known : (c : In-Some) → Plain c.args.s.now c.args.at c.in-Some.from c.in-Some.n
+string-known c = plain-span c.in-Some.is c.plain.ensures
 
 pub overflow_add-result : goal.overflow_add-result
-overflow_add-result c = let k = string-known (goal.at.overflow_add-result c).In-Span in omega (arith, plain-inside k)
+overflow_add-result c = let k = string-known (goal.at.overflow_add-result c).In-Some in omega (arith, plain-inside k)
 
-pub returns-in-Span : goal.returns-in-Span
-returns-in-Span c =
-    let k = string-known (goal.at.returns-in-Span c).In-Span in
+pub returns-in-Some : goal.returns-in-Some
+returns-in-Some c =
+    let k = string-known (goal.at.returns-in-Some c).In-Some in
     let n = spell-some (str k.octets) in
     (omega (arith, k.ends), (omega arith, omega (arith, plain-inside k)))

@@ -1,10 +1,9 @@
--- `cases` (src/main.rt): each case ends further on, so the loop ends.
-use Prim.Native.Nat.{◌-◌}
-use lib.ListN.{length}
+-- `cases` (src/main.rt): each case takes something of the file, so the loop ends.
+use Rattle.std.proofs.Common.{length}
 use Rattle.judge_cases.proofs.cases.Given as goal
 
-abbrev pub invariant-loop-at : goal.invariant-loop-at
-invariant-loop-at g l = Unit {0}
+abbrev pub invariant-loop-rest : goal.invariant-loop-rest
+invariant-loop-rest g l = Unit {0}
 
-abbrev pub decreases-loop-at : goal.decreases-loop-at
-decreases-loop-at g l = length l.s - l.at
+abbrev pub decreases-loop-rest : goal.decreases-loop-rest
+decreases-loop-rest g l = length l.rest

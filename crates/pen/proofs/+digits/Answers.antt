@@ -2,8 +2,7 @@
 use mathlib.Core.Path.{sym, ap, ◌∙◌}
 use native.Mathlib.Omega.{arith}
 use Rattle.pen.proofs.NumeralLaws.{length-small, length_more, few-digits}
-use borrow.Author.Rules.{rules}
-use Prim.Native.Nat.{ℕ, ◌<◌, ◌+◌, ◌/◌}
+use Prim.Native.Nat.{ℕ, ◌+◌, ◌/◌}
 use Rattle.pen.proofs.+digits.Goals as goal
 
 pub returns-then-n-lt10 : goal.returns-then-n-lt10

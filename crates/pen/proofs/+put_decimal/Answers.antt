@@ -1,7 +1,5 @@
 -- `put_decimal` of src/lib.rt meets its contract. Assumes nothing.
 use Rattle.pen.proofs.NumeralLaws.{puts-small, puts-decimal}
-use borrow.Author.Rules.{rules}
-use Prim.Native.Nat.{ℕ, ◌<◌}
 use Rattle.pen.proofs.+put_decimal.Goals as goal
 
 pub returns-then-n-lt10 : goal.returns-then-n-lt10

@@ -1,6 +1,5 @@
 -- `put_number` of src/lib.rt meets its contract. Assumes nothing.
 use Rattle.pen.proofs.NumeralLaws.{puts-numeral}
-use borrow.Author.Rules.{rules}
 use Rattle.pen.proofs.put_number.Goals as goal
 
 pub returns : goal.returns

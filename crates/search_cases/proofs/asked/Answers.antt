@@ -5,4 +5,4 @@ use native.Mathlib.Omega.{arith}
 use Rattle.search_cases.proofs.asked.Goals as goal
 
 pub slice_bounds-searched-end : goal.slice_bounds-searched-end
-slice_bounds-searched-end g c = let e = c.blank-strip.ensures in let l = c.if-n-gt20000.false in sym (length-take-le c.in-Is-size.n c.blank-strip.result (omega arith))
+slice_bounds-searched-end g c = let e = c.filled-strip.ensures.count in let l = c.if-size-gt20000.false in sym (length-take-le _ c.filled-strip.result (omega arith))

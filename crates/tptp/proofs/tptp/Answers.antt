@@ -15,19 +15,19 @@ returns-then-not-sound_text c =
     let s = c.sound_text in
     not_sound x.text.now x.rules.now x.goal.now s.result c.refused-then-not-sound_text.result c.if-text-gt16384.false s.ensures (not-true s.result c.if-not-sound_text.true-raw) c.refused-then-not-sound_text.ensures
 
-pub returns-then-n-ne0 : goal.returns-then-n-ne0
-returns-then-n-ne0 c =
+pub returns-in-Some : goal.returns-in-Some
+returns-in-Some c =
     let x = c.args in
     let s = c.sound_text in
     let m = c.measured in
-    let n = c.reason-n in
-    refused-lines x.text.now x.rules.now x.goal.now s.result m.result n.result c.refused-then-n-ne0.result c.if-text-gt16384.false s.ensures (not-false s.result c.if-not-sound_text.false-raw) m.ensures n.ensures c.if-n-ne0.true c.refused-then-n-ne0.ensures
+    let n = c.reason in
+    refused-lines x.text.now x.rules.now x.goal.now s.result m.result n.result c.in-Some.n c.refused-in-Some.result c.if-text-gt16384.false s.ensures (not-false s.result c.if-not-sound_text.false-raw) m.ensures n.ensures c.in-Some.is c.refused-in-Some.ensures
 
 pub returns : goal.returns
 returns c =
     let x = c.args in
     let s = c.sound_text in
     let m = c.measured in
-    let n = c.reason-n in
+    let n = c.reason in
     let q = c.pass-p in
-    written-lines x.text.now x.rules.now q.new.rules x.goal.now q.new.goal s.result m.result q.result n.result c.if-text-gt16384.false s.ensures (not-false s.result c.if-not-sound_text.false-raw) m.ensures n.ensures c.if-n-ne0.false q.ensures
+    written-lines x.text.now x.rules.now q.new.rules x.goal.now q.new.goal s.result m.result q.result n.result c.if-text-gt16384.false s.ensures (not-false s.result c.if-not-sound_text.false-raw) m.ensures n.ensures c.in_default.is q.ensures

@@ -6,13 +6,13 @@ use native.Mathlib.Omega.{arith}
 use Rattle.tptp_cases.proofs.read.Goals as goal
 
 pub slice_bounds-written-end : goal.slice_bounds-written-end
-slice_bounds-written-end g c = let k = c.tptp in let l = written-inside k.ensures c.in-Written.r c.in-Written.g c.in-Written.is in let q = k.auto.rules in omega (arith, l.0)
+slice_bounds-written-end g c = let k = c.tptp in let l = written-inside k.ensures c.in-Ok.field-0.rules c.in-Ok.field-0.goal c.in-Ok.is in let q = k.auto.rules in omega (arith, l.0)
 
-pub slice_bounds-written-end-in-Written : goal.slice_bounds-written-end-in-Written
-slice_bounds-written-end-in-Written g c = let k = c.tptp in let l = written-inside k.ensures c.in-Written.r c.in-Written.g c.in-Written.is in let q = k.auto.rules in sym (length-take-le c.in-Written.r k.new.rules (omega (arith, l.0)))
+pub slice_bounds-written-end-in-Ok : goal.slice_bounds-written-end-in-Ok
+slice_bounds-written-end-in-Ok g c = let k = c.tptp in let l = written-inside k.ensures c.in-Ok.field-0.rules c.in-Ok.field-0.goal c.in-Ok.is in let q = k.auto.rules in sym (length-take-le c.in-Ok.field-0.rules k.new.rules (omega (arith, l.0)))
 
-pub slice_bounds-written-end-in-Written-2 : goal.slice_bounds-written-end-in-Written-2
-slice_bounds-written-end-in-Written-2 g c = let k = c.tptp in let l = written-inside k.ensures c.in-Written.r c.in-Written.g c.in-Written.is in let q = k.auto.goal in omega (arith, l.1)
+pub slice_bounds-written-end-in-Ok-2 : goal.slice_bounds-written-end-in-Ok-2
+slice_bounds-written-end-in-Ok-2 g c = let k = c.tptp in let l = written-inside k.ensures c.in-Ok.field-0.rules c.in-Ok.field-0.goal c.in-Ok.is in let q = k.auto.goal in omega (arith, l.1)
 
-pub slice_bounds-written-end-in-Written-3 : goal.slice_bounds-written-end-in-Written-3
-slice_bounds-written-end-in-Written-3 g c = let k = c.tptp in let l = written-inside k.ensures c.in-Written.r c.in-Written.g c.in-Written.is in let q = k.auto.goal in sym (length-take-le c.in-Written.g k.new.goal (omega (arith, l.1)))
+pub slice_bounds-written-end-in-Ok-3 : goal.slice_bounds-written-end-in-Ok-3
+slice_bounds-written-end-in-Ok-3 g c = let k = c.tptp in let l = written-inside k.ensures c.in-Ok.field-0.rules c.in-Ok.field-0.goal c.in-Ok.is in let q = k.auto.goal in sym (length-take-le c.in-Ok.field-0.goal k.new.goal (omega (arith, l.1)))

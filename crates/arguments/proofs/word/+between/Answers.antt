@@ -1,9 +1,5 @@
 -- `between` of src/word.rt meets its contract. Assumes nothing.
-use mathlib.Core.Path.{subst}
-use Rattle.arguments.specs.Arguments.{Beside}
 use Rattle.arguments.proofs.BesideLaws.{between-open, between-short, between_first, between-rest}
-use borrow.Author.Rules.{rules}
-use Prim.Native.Nat.{ℕ, ◌%◌, ◌<◌}
 use Rattle.arguments.proofs.word.+between.Goals as goal
 
 pub returns-then-most-eq0 : goal.returns-then-most-eq0
@@ -15,11 +11,11 @@ returns-then-kept-eq0 t c = between-open c.args.asked c.args.kept
 pub returns-else-kept-eq0 : goal.returns-else-kept-eq0
 returns-else-kept-eq0 t c = between-short c.args.asked c.args.kept c.if-asked-eq0.true c.if-kept-eq0.false
 
-pub returns-then-one-eq1023 : goal.returns-then-one-eq1023
-returns-then-one-eq1023 t c = between_first c.args.asked c.args.kept c.if-asked-eq0.false (subst (Beside (c.args.asked % 1024) (c.args.kept % 1024)) c.if-one-eq1023.true c.beside-one.ensures)
+pub returns-in-Never : goal.returns-in-Never
+returns-in-Never t c = between_first c.args.asked c.args.kept c.if-asked-eq0.false c.beside-one.result c.beside-one.ensures
 
-pub returns-then-rest-eq0 : goal.returns-then-rest-eq0
-returns-then-rest-eq0 t c = between_first c.args.asked c.args.kept c.if-asked-eq0.false c.beside-one.ensures
+pub returns-in-Nothing : goal.returns-in-Nothing
+returns-in-Nothing t c = between_first c.args.asked c.args.kept c.if-asked-eq0.false c.beside-one.result c.beside-one.ensures
 
-pub returns-else-rest-eq0 : goal.returns-else-rest-eq0
-returns-else-rest-eq0 t c = between-rest c.args.asked c.args.kept c.if-asked-eq0.false c.between-rest.ensures
+pub returns-in_default-between : goal.returns-in_default-between
+returns-in_default-between t c = between-rest c.args.asked c.args.kept c.if-asked-eq0.false c.between.result c.between.ensures

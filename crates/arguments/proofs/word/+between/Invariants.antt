@@ -1,8 +1,3 @@
-use mathlib.Core.Path.{subst}
-use Rattle.arguments.specs.Arguments.{Beside}
-use Rattle.arguments.proofs.BesideLaws.{between-open, between-short, between_first, between-rest}
-use borrow.Author.Rules.{rules}
-use Prim.Native.Nat.{ℕ, ◌%◌, ◌<◌}
 use Rattle.arguments.proofs.word.+between.Given as goal
 
 abbrev pub decreases-between : goal.decreases-between

@@ -5,4 +5,4 @@ use borrow.Author.Rules.{rules}
 use Rattle.drawing.proofs.put.beside.Goals as goal
 
 pub returns : goal.returns
-returns c = ap₂ (λ (h n : ℕ). record { height = h; nodes = n; at = c.args.b.at }) c.higher.ensures c.plus.ensures
+returns c = ap₂ (λ (h n : ℕ). record { height = h; nodes = n; at = c.args.b.at }) c.max.ensures c.plus.ensures

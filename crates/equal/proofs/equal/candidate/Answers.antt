@@ -4,13 +4,11 @@ use Rattle.equal.specs.declared.equal.Seen.TheVariants.{Written}
 use Rattle.room.specs.declared.Source.TheVariants as Source
 use Prim.Native.Nat.{ℕ, ◌<◌, ◌≤◌}
 use mathlib.Core.Path.{sym, ap, subst, ◌∙◌}
-use native.Mathlib.Omega.{arith}
-use borrow.Author.Rules.{rules}
 use Rattle.equal.proofs.equal.candidate.Goals as goal
 
 pub returns-then-i-word : goal.returns-then-i-word
 returns-then-i-word c = let x = c.args in
-    ap (λ (at : ℕ). Written (record { source = Source.Terms; at = at; base = 0; count = 0 })) c.word_after-at.ensures
+    ap (λ (at : ℕ). Written (record { source = Source.Terms; at = at; base = 0; count = 0 })) c.word_after.ensures
     ∙ sym (candidate-below x.room.now x.i (subst (λ (n : ℕ). x.i < n) c.word.ensures c.if-i-word.true))
 
 pub returns : goal.returns

@@ -1,8 +1,6 @@
 -- `meaning` of src/equal.rt meets its contract. Assumes nothing.
 use Rattle.equal.specs.Term.{binding_seen}
 use mathlib.Core.Path.{sym, ap, ◌∙◌}
-use native.Mathlib.Omega.{arith}
-use borrow.Author.Rules.{rules}
 use Rattle.equal.proofs.equal.meaning.Goals as goal
 
 pub returns-in-Candidate : goal.returns-in-Candidate

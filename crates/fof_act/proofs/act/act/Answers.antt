@@ -3,7 +3,6 @@ use mathlib.Core.Path.{refl}
 use mathlib.Core.Bool.{false}
 use borrow.Author.Tests.{not-true, not-false}
 use Rattle.fof_act.proofs.ActLaws.{act-not, act-done}
-use borrow.Author.Rules.{rules}
 use Rattle.fof_act.proofs.act.act.Goals as goal
 
 pub returns-then-not-p : goal.returns-then-not-p

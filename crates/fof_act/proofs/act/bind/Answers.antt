@@ -1,7 +1,7 @@
 -- `bind` of src/act.rt meets its contract. Assumes nothing.
 use mathlib.Core.Path.{refl}
 use Rattle.fof_act.proofs.ActLaws.{bind-same, bind-more, bind-less}
-use borrow.Author.Rules.{rules}
+use native.Mathlib.Omega.{arith}
 use Rattle.fof_act.proofs.act.bind.Goals as goal
 
 pub returns-in-Nothing : goal.returns-in-Nothing
@@ -14,7 +14,7 @@ pub returns-in-Implies : goal.returns-in-Implies
 returns-in-Implies c = let a = c.args in bind-same a.names.now a.bound a.at c.in-Implies.is (λ _ _. refl)
 
 pub returns-in-Binds : goal.returns-in-Binds
-returns-in-Binds c = let a = c.args in bind-more a.names.now c.enter.new.s a.bound a.at c.in-Binds.is c.enter.ensures c.one_more.ensures
+returns-in-Binds c = let a = c.args in bind-more a.names.now c.enter.new.list a.bound a.at c.in-Binds.is c.enter.ensures (λ l. omega (arith, c.saturating_add.ensures))
 
 pub returns-in-Top : goal.returns-in-Top
 returns-in-Top c = let a = c.args in bind-same a.names.now a.bound a.at c.in-Top.is (λ _ _. refl)
@@ -32,4 +32,4 @@ pub returns-in-End : goal.returns-in-End
 returns-in-End c = let a = c.args in bind-same a.names.now a.bound a.at c.in-End.is (λ _ _. refl)
 
 pub returns-in-Leaves : goal.returns-in-Leaves
-returns-in-Leaves c = let a = c.args in bind-less a.names.now a.bound a.at c.in-Leaves.is c.one_less.ensures
+returns-in-Leaves c = let a = c.args in bind-less a.names.now a.bound a.at c.in-Leaves.is c.saturating_sub.ensures

@@ -1,7 +1,6 @@
 -- `links` of src/act.rt meets its contract. Assumes nothing.
 use mathlib.Core.Bool.{true, false}
 use Rattle.fof_act.proofs.ActLaws.{links-by}
-use borrow.Author.Rules.{rules}
 use Rattle.fof_act.proofs.act.links.Goals as goal
 
 pub returns-then-conj : goal.returns-then-conj

@@ -3,7 +3,6 @@ use mathlib.Core.Bool.{false}
 use mathlib.Core.Path.{refl}
 use Rattle.fof_pass.specs.Ahead.{between}
 use Rattle.fof_act.proofs.ActLaws.{named-not, named-is}
-use borrow.Author.Rules.{rules}
 use Rattle.fof_act.proofs.act.named.Goals as goal
 
 pub returns-then-not-is_name_of : goal.returns-then-not-is_name_of

@@ -1,6 +1,5 @@
 -- `pushed` of src/act.rt meets its contract. Assumes nothing.
 use Rattle.fof_act.proofs.ActLaws.{push-four}
-use borrow.Author.Rules.{rules}
 use Rattle.fof_act.proofs.act.pushed.Goals as goal
 
 pub returns : goal.returns

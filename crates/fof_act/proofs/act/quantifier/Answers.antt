@@ -1,7 +1,6 @@
 -- `quantifier` of src/act.rt meets its contract. Assumes nothing.
 use mathlib.Core.Bool.{true, false}
 use Rattle.fof_act.proofs.ActLaws.{quantifier-by}
-use borrow.Author.Rules.{rules}
 use Rattle.fof_act.proofs.act.quantifier.Goals as goal
 
 pub returns-then-every : goal.returns-then-every

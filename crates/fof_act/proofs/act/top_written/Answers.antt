@@ -1,6 +1,5 @@
 -- `top_written` of src/act.rt meets its contract. Assumes nothing.
 use Rattle.fof_pass.proofs.InkLaws.{inks-then}
-use borrow.Author.Rules.{rules}
 use Rattle.fof_act.proofs.act.top_written.Goals as goal
 
 pub returns : goal.returns

@@ -3,7 +3,6 @@ use mathlib.Core.Path.{refl}
 use Rattle.basics.specs.Text.{octets}
 use Rattle.fof_pass.proofs.InkLaws.{inks-none}
 use Rattle.fof_act.proofs.ActLaws.{write-plain, write-named, write-variable}
-use borrow.Author.Rules.{rules}
 use Rattle.fof_act.proofs.act.write.Goals as goal
 
 pub returns-in-Nothing : goal.returns-in-Nothing

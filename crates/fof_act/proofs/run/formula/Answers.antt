@@ -1,9 +1,8 @@
 -- `formula` of src/run.rt meets its contract. Assumes nothing.
-use Rattle.fof_act.proofs.RunLaws.{Runs, runs-first, runs-next, formula-out, formula-wrong, formula-done}
+use Rattle.fof_act.proofs.RunLaws.{runs-first, runs-next, formula-out, formula-wrong, formula-done}
 use mathlib.Core.Path.{◌∙◌}
 use mathlib.Core.Bool.{true}
 use borrow.Author.Tests.{not-true, not-false}
-use borrow.Author.Rules.{rules}
 use Rattle.fof_act.proofs.run.formula.Goals as goal
 
 pub loop-n-init : goal.loop-n-init

@@ -1,8 +1,4 @@
-use Rattle.fof_act.proofs.RunLaws.{Runs, runs-first, runs-next, formula-out, formula-wrong, formula-done}
-use mathlib.Core.Path.{◌∙◌}
-use mathlib.Core.Bool.{true}
-use borrow.Author.Tests.{not-true, not-false}
-use borrow.Author.Rules.{rules}
+use Rattle.fof_act.proofs.RunLaws.{Runs}
 use Rattle.fof_act.proofs.run.formula.Given as goal
 
 abbrev pub invariant-loop-n : goal.invariant-loop-n

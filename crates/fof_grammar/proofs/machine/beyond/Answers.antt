@@ -1,13 +1,5 @@
 use native.Mathlib.Omega.{arith}
-use Prim.Native.Nat.{◌-◌}
-use mathlib.Core.Path.{◌≡◌, refl, ◌∙◌}
-use mathlib.Core.Bool.{true}
-use mathlib.Core.List.{List, map}
-use lib.ListN.{length, drop}
-use borrow.Author.Rules.{rules}
-use Rattle.grammar.specs.Machine.{ahead}
-use Rattle.fof_productions.specs.Terminal.{Terminal, code}
-use Rattle.fof_productions.specs.Decided.{decided}
+use mathlib.Core.Path.{refl, ◌∙◌}
 use Rattle.fof_grammar.proofs.AheadLaws.{skips, stops, over}
 use Rattle.fof_grammar.proofs.machine.beyond.Goals as goal
 
@@ -16,9 +8,6 @@ loop-i-init c = λ w e. refl
 
 pub returns-then-c-ne13 : goal.returns-then-c-ne13
 returns-then-c-ne13 c = λ w e. let (l, q) = stops c.args.codes.now w c.loop-i.i e c.loop-i-test.true c.if-c-ne13.true in (l, c.loop-i.invariant w e ∙ q)
-
-pub loop-i-smaller : goal.loop-i-smaller
-loop-i-smaller c = let h = c.loop-i-test.true in omega arith
 
 pub loop-i-preserved : goal.loop-i-preserved
 loop-i-preserved c = λ w e. c.loop-i.invariant w e ∙ skips c.args.codes.now w c.loop-i.i e c.loop-i-test.true c.if-c-ne13.false

@@ -1,14 +1,11 @@
-use native.Mathlib.Omega.{arith}
 use Prim.Native.Nat.{◌-◌}
-use mathlib.Core.Path.{◌≡◌, refl, ◌∙◌}
+use mathlib.Core.Path.{◌≡◌}
 use mathlib.Core.Bool.{true}
 use mathlib.Core.List.{List, map}
 use lib.ListN.{length, drop}
-use borrow.Author.Rules.{rules}
 use Rattle.grammar.specs.Machine.{ahead}
 use Rattle.fof_productions.specs.Terminal.{Terminal, code}
 use Rattle.fof_productions.specs.Decided.{decided}
-use Rattle.fof_grammar.proofs.AheadLaws.{skips, stops, over}
 use Rattle.fof_grammar.proofs.machine.beyond.Given as goal
 
 abbrev pub invariant-loop-i : goal.invariant-loop-i

@@ -1,6 +1,5 @@
 use lib.ListN.{drop}
 use Rattle.fof_grammar.proofs.AheadLaws.{formula-decides, other-decides, nears}
-use borrow.Author.Rules.{rules}
 use Rattle.fof_grammar.proofs.machine.decide.Goals as goal
 
 pub returns-then-name-eq6 : goal.returns-then-name-eq6

@@ -1,15 +1,15 @@
 use native.Mathlib.Omega.{arith}
-use Prim.Native.Nat.{◌+◌, ◌-◌, ◌*◌}
-use mathlib.Core.Path.{◌≡◌, refl, ◌∙◌}
+use Prim.Native.Nat.{◌+◌, ◌-◌}
+use mathlib.Core.Path.{refl, ◌∙◌}
 use lib.ListN.{length, get_or, length-set}
 use mir.Syntax.{w64}
 use mathlib.Core.List.{[], ◌∷◌}
 use lib.Dec.{eqb}
 use Rattle.grammar.specs.Derives.{any}
 use Rattle.fof_productions.specs.Name.{file}
-use borrow.Author.Rules.{rules, Fits-under}
+use borrow.Author.Rules.{Fits-under}
 use Rattle.fof_productions.proofs.Same.{as-decided, tells-published}
-use Rattle.fof_grammar.proofs.Running.{Running, due_at, starts, symbol_low, name-low, token-next, token-fails, name-fails, name-room, name-next, in-room, nearby, finishes}
+use Rattle.fof_grammar.proofs.Running.{starts, symbol_low, name-low, token-next, token-fails, name-fails, name-room, name-next, in-room, nearby, finishes}
 use Rattle.fof_grammar.proofs.machine.derived.Goals as goal
 
 pub loop-top-init : goal.loop-top-init

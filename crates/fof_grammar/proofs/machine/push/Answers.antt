@@ -1,16 +1,11 @@
 use native.Mathlib.Omega.{arith}
-use Prim.Native.Nat.{◌-◌, ◌≤◌}
-use mathlib.Core.Path.{◌≡◌, refl, ◌∙◌}
-use lib.ListN.{length, length-set}
-use borrow.Author.Rules.{rules}
-use Rattle.fof_grammar.proofs.StackLaws.{Putting, put_first, put-more, put_all}
+use mathlib.Core.Path.{refl, ◌∙◌}
+use lib.ListN.{length-set}
+use Rattle.fof_grammar.proofs.StackLaws.{put_first, put-more, put_all}
 use Rattle.fof_grammar.proofs.machine.push.Goals as goal
 
 pub loop-i-init : goal.loop-i-init
 loop-i-init c = (omega arith, refl, put_first c.args.stack.now c.args.top c.args.k)
-
-pub loop-i-smaller : goal.loop-i-smaller
-loop-i-smaller c = let h = c.loop-i-test.true in omega arith
 
 pub loop-i-preserved : goal.loop-i-preserved
 loop-i-preserved c = let h = c.loop-i-test.true in let e = c.width-n.ensures in let l = c.loop-i.invariant.1 in let p = c.requires.1 in (omega arith, length-set c.loop-i.stack _ _ ∙ l, put-more c.args.stack.now c.loop-i.stack c.args.top c.args.k c.loop-i.i c.symbol.result (omega arith) (omega arith) c.symbol.ensures c.loop-i.invariant.2)

@@ -1,9 +1,7 @@
-use native.Mathlib.Omega.{arith}
 use Prim.Native.Nat.{◌-◌, ◌≤◌}
-use mathlib.Core.Path.{◌≡◌, refl, ◌∙◌}
-use lib.ListN.{length, length-set}
-use borrow.Author.Rules.{rules}
-use Rattle.fof_grammar.proofs.StackLaws.{Putting, put_first, put-more, put_all}
+use mathlib.Core.Path.{◌≡◌}
+use lib.ListN.{length}
+use Rattle.fof_grammar.proofs.StackLaws.{Putting}
 use Rattle.fof_grammar.proofs.machine.push.Given as goal
 
 abbrev pub invariant-loop-i : goal.invariant-loop-i

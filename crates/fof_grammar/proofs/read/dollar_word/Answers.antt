@@ -1,6 +1,5 @@
 use mathlib.Core.Path.{refl}
 use mathlib.Core.Bool.{true, false}
-use borrow.Author.Rules.{rules}
 use Rattle.basics.specs.Text.{octets}
 use Rattle.fof_productions.specs.Terminal.{same_octets}
 use Rattle.fof_grammar.proofs.ReadLaws.{said, by-dollar}

@@ -1,5 +1,4 @@
 use mathlib.Core.Bool.{true, false}
-use borrow.Author.Rules.{rules}
 use Rattle.basics.specs.Text.{octets}
 use Rattle.fof_grammar.proofs.ReadLaws.{said, by-lower}
 use Rattle.fof_grammar.proofs.read.lower_word.Goals as goal

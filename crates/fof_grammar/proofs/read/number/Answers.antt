@@ -1,5 +1,4 @@
 use mathlib.Core.Path.{ap, sym, ◌∙◌}
-use borrow.Author.Rules.{rules}
 use Rattle.fof_tokens.specs.declared.Kind.{Kind}
 use Rattle.fof_productions.specs.Terminal.{terminal, code}
 use Rattle.fof_grammar.proofs.read.number.Goals as goal

@@ -1,13 +1,11 @@
-use native.Mathlib.Omega.{arith}
 use Prim.Native.Nat.{◌-◌}
-use mathlib.Core.Path.{◌≡◌, refl, sym, ◌∙◌}
-use lib.ListN.{length, length-set}
-use borrow.Author.Rules.{rules}
-use Rattle.fof_grammar.proofs.ReadLaws.{Reading, token-within, reads_first, reads-bad, reads_all, reads_more}
+use mathlib.Core.Path.{◌≡◌}
+use lib.ListN.{length}
+use Rattle.fof_grammar.proofs.ReadLaws.{Reading}
 use Rattle.fof_grammar.proofs.read.read.Given as goal
 
-abbrev pub invariant-loop-kind : goal.invariant-loop-kind
-invariant-loop-kind l = (length l.codes ≡ length l.initial.codes) × Reading l.text l.codes l.at l.n
+abbrev pub invariant-loop-token : goal.invariant-loop-token
+invariant-loop-token l = (length l.codes ≡ length l.initial.codes) × Reading l.text l.codes l.at l.n
 
-abbrev pub decreases-loop-kind : goal.decreases-loop-kind
-decreases-loop-kind l = length l.text - l.at
+abbrev pub decreases-loop-token : goal.decreases-loop-token
+decreases-loop-token l = length l.text - l.at

@@ -1,4 +1,3 @@
-use borrow.Author.Rules.{rules}
 use borrow.Author.Rules.{Fits-under}
 use mir.Syntax.{w8}
 use Rattle.fof_grammar.proofs.Tables.{far-ahead, chooses_none, chosen-few, chooses-some}

@@ -1,4 +1,3 @@
-use borrow.Author.Rules.{rules}
 use borrow.Author.Rules.{Fits-under}
 use mir.Syntax.{w64}
 use Rattle.fof_grammar.proofs.Tables.{row_inside, row-symbol}

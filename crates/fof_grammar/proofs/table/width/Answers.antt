@@ -1,4 +1,3 @@
-use borrow.Author.Rules.{rules}
 use Rattle.fof_grammar.proofs.Tables.{row-filled, row-width}
 use Rattle.fof_grammar.proofs.table.width.Goals as goal
 

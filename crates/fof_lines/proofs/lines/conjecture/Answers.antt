@@ -3,8 +3,8 @@ use Rattle.fof_lines.proofs.LineLaws.{added-conjecture}
 use Rattle.fof_lines.specs.Lined.{closed}
 use Rattle.fof_part.specs.Due.{Sort, formula_at}
 use mathlib.Core.Path.{refl}
-use borrow.Author.Rules.{rules}
+use native.Mathlib.Omega.{arith}
 use Rattle.fof_lines.proofs.lines.conjecture.Goals as goal
 
 pub returns : goal.returns
-returns c = let x = c.args in let e = c.body-n.ensures in λ other. record { kept = record { stack = e.kept.stack; names = e.kept.names; rules = refl; goal = e.kept.bytes }; does = λ l m k ss s. added-conjecture x.text.now x.goal.now c.body-n.new.buf other x.p c.body-n.result c.more-conjectures.result k.1 c.more-conjectures.ensures (closed (formula_at Sort.goal ss)) (e.does l m ss s) }
+returns c = let x = c.args in let e = c.body-n.ensures in λ other. record { kept = record { stack = e.kept.stack; names = e.kept.names; rules = refl; goal = e.kept.bytes }; does = λ l m k ss s. added-conjecture x.text.now x.goal.now c.body-n.new.buf other x.p c.body-n.result c.saturating_add-conjectures.result k.1 (λ l. omega (arith, c.saturating_add-conjectures.ensures)) (closed (formula_at Sort.goal ss)) (e.does l m ss s) }

@@ -1,15 +1,12 @@
-use Rattle.fof_lines.proofs.LinesLaws.{Sofar, sofar-start, sofar-end, sofar-over, sofar-counted, sofar-refused, sofar-next, kept-none, kept_then, kept-roomy}
+use Rattle.fof_lines.proofs.LinesLaws.{Sofar}
 use Rattle.fof_lines.specs.Lined.{KeptBoth}
 use Rattle.fof_act.specs.Holding.{Roomy}
 use Rattle.fof_pass.specs.Ahead.{signs_at}
 use Rattle.fof_part.specs.Sign.{Sign}
-use borrow.Author.Tests.{not-true, not-false}
-use borrow.Author.Rules.{rules}
 use lib.ListN.{length}
-use native.Mathlib.Omega.{arith}
 use mathlib.Core.Option.{some}
 use mathlib.Core.List.{List}
-use mathlib.Core.Path.{◌≡◌, refl, ◌∙◌}
+use mathlib.Core.Path.{◌≡◌}
 use Prim.Native.Nat.{◌≤◌}
 use Rattle.fof_lines.proofs.lines.lines.Given as goal
 

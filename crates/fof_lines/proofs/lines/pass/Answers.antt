@@ -2,7 +2,6 @@
 use Rattle.fof_lines.proofs.LinesLaws.{room_for}
 use lib.ListN.{length-replicate}
 use Prim.Native.Nat.{ℕ}
-use borrow.Author.Rules.{rules}
 use Rattle.fof_lines.proofs.lines.pass.Goals as goal
 
 pub shape_of-rules : goal.shape_of-rules

@@ -1,6 +1,5 @@
 -- `begin` of src/ink.rt meets its contract. Assumes nothing.
 use Rattle.fof_pass.proofs.InkLaws.{inks-begin, inks-deep}
-use borrow.Author.Rules.{rules}
 use Rattle.fof_pass.proofs.ink.begin.Goals as goal
 
 pub returns-then-pen-lt64 : goal.returns-then-pen-lt64

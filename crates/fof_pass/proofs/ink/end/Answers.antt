@@ -1,6 +1,5 @@
 -- `end` of src/ink.rt meets its contract. Assumes nothing.
 use Rattle.fof_pass.proofs.InkLaws.{inks-end, inks-shallow}
-use borrow.Author.Rules.{rules}
 use Rattle.fof_pass.proofs.ink.end.Goals as goal
 
 pub returns-then-pen-eq0 : goal.returns-then-pen-eq0

@@ -1,6 +1,5 @@
 -- `head` of src/ink.rt meets its contract. Assumes nothing.
 use Rattle.fof_pass.proofs.InkLaws.{inks-then}
-use borrow.Author.Rules.{rules}
 use Rattle.fof_pass.proofs.ink.head.Goals as goal
 
 pub returns : goal.returns

@@ -1,6 +1,5 @@
 -- `number` of src/ink.rt meets its contract. Assumes nothing.
 use Rattle.fof_pass.proofs.InkLaws.{inks-number}
-use borrow.Author.Rules.{rules}
 use Rattle.fof_pass.proofs.ink.number.Goals as goal
 
 pub returns : goal.returns

@@ -1,6 +1,5 @@
 -- `string` of src/ink.rt meets its contract. Assumes nothing.
 use Rattle.fof_pass.proofs.InkLaws.{inks-string}
-use borrow.Author.Rules.{rules}
 use Rattle.fof_pass.proofs.ink.string.Goals as goal
 
 pub returns : goal.returns

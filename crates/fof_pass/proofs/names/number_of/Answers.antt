@@ -1,10 +1,6 @@
 -- `number_of` of src/names.rt meets its contract. Assumes nothing.
-use Prim.Native.Nat.{◌-◌, ◌≤◌}
-use Rattle.fof_truth.specs.Numbered.{Scope}
-use Rattle.fof_pass.specs.Names.{Scoped}
-use Rattle.fof_pass.proofs.NameLaws.{Left, left-all, left-none, left-hit, left-miss}
+use Rattle.fof_pass.proofs.NameLaws.{left-all, left-none, left-hit, left-miss}
 use native.Mathlib.Omega.{arith}
-use borrow.Author.Rules.{rules}
 use Rattle.fof_pass.proofs.names.number_of.Goals as goal
 
 pub loop-i-init : goal.loop-i-init

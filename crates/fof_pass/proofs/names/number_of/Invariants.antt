@@ -1,9 +1,7 @@
 use Prim.Native.Nat.{◌-◌, ◌≤◌}
 use Rattle.fof_truth.specs.Numbered.{Scope}
 use Rattle.fof_pass.specs.Names.{Scoped}
-use Rattle.fof_pass.proofs.NameLaws.{Left, left-all, left-none, left-hit, left-miss}
-use native.Mathlib.Omega.{arith}
-use borrow.Author.Rules.{rules}
+use Rattle.fof_pass.proofs.NameLaws.{Left}
 use Rattle.fof_pass.proofs.names.number_of.Given as goal
 
 abbrev pub invariant-loop-i : goal.invariant-loop-i

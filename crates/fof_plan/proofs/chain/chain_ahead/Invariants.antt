@@ -1,8 +1,6 @@
 use Prim.Native.Nat.{◌-◌}
 use lib.ListN.{length}
-use Rattle.fof_plan.proofs.ChainLaws.{Passing, passing-none, passing-over, passing-stops, passing-next}
-use native.Mathlib.Omega.{arith}
-use borrow.Author.Rules.{rules}
+use Rattle.fof_plan.proofs.ChainLaws.{Passing}
 use Rattle.fof_plan.proofs.chain.chain_ahead.Given as goal
 
 abbrev pub invariant-loop-a : goal.invariant-loop-a

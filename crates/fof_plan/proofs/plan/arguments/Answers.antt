@@ -1,10 +1,13 @@
 -- `arguments` of src/plan.rt meets its contract. Assumes nothing.
+use mathlib.Core.Path.{ap}
+use Rattle.fof_pass.specs.declared.ahead.Sign.TheVariants as S
+use Rattle.fof_pass.specs.Codes.{code_is}
+use Rattle.fof_pass.proofs.CodeLaws.{code-only}
 use Rattle.fof_plan.proofs.PlanLaws.{arguments-in, arguments-none}
-use borrow.Author.Rules.{rules}
 use Rattle.fof_plan.proofs.plan.arguments.Goals as goal
 
-pub returns-then-code-eq3 : goal.returns-then-code-eq3
-returns-then-code-eq3 c = arguments-in c.args.code c.if-code-eq3.true c.leading.ensures
+pub returns-in-Opens : goal.returns-in-Opens
+returns-in-Opens c = let a = c.args in arguments-in (code_is a.sign) (ap code_is c.in-Opens.is) c.leading.ensures
 
-pub returns : goal.returns
-returns c = arguments-none c.args.code c.if-code-eq3.false c.writing.ensures
+pub returns-in_default : goal.returns-in_default
+returns-in_default c = let a = c.args in arguments-none (code_is a.sign) (λ e. c.in_default.not-Opens (code-only a.sign S.Opens e)) c.writing.ensures

@@ -1,7 +1,6 @@
 -- `by_chain` of src/plan.rt meets its contract. Assumes nothing.
 use mathlib.Core.Path.{refl}
 use Rattle.fof_plan.proofs.PlanLaws.{chain-as, chain-lone, chain-out}
-use borrow.Author.Rules.{rules}
 use Rattle.fof_plan.proofs.plan.by_chain.Goals as goal
 
 pub returns-in-Lone : goal.returns-in-Lone

@@ -1,6 +1,5 @@
 -- `linked` of src/plan.rt meets its contract. Assumes nothing.
 use Rattle.fof_plan.proofs.PlanLaws.{linked-is}
-use borrow.Author.Rules.{rules}
 use Rattle.fof_plan.proofs.plan.linked.Goals as goal
 
 pub returns : goal.returns

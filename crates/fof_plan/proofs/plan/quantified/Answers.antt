@@ -1,7 +1,6 @@
 -- `quantified` of src/plan.rt meets its contract. Assumes nothing.
 use mathlib.Core.Path.{refl}
 use Rattle.fof_plan.proofs.PlanLaws.{quantified-in, quantified-out}
-use borrow.Author.Rules.{rules}
 use Rattle.fof_plan.proofs.plan.quantified.Goals as goal
 
 pub returns-then-every : goal.returns-then-every

@@ -1,7 +1,6 @@
 -- `topped` of src/plan.rt meets its contract. Assumes nothing.
 use mathlib.Core.Path.{refl}
 use Rattle.fof_plan.proofs.PlanLaws.{topped-in, topped-out}
-use borrow.Author.Rules.{rules}
 use Rattle.fof_plan.proofs.plan.topped.Goals as goal
 
 pub returns-in-Goal : goal.returns-in-Goal

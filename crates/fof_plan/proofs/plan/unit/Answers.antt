@@ -1,24 +1,27 @@
 -- `unit` of src/plan.rt meets its contract. Assumes nothing.
+use mathlib.Core.Path.{ap}
+use Rattle.fof_pass.specs.declared.ahead.Sign.TheVariants as S
+use Rattle.fof_pass.specs.Codes.{code_is}
+use Rattle.fof_pass.proofs.CodeLaws.{code-only}
 use Rattle.fof_pass.specs.Dues.{sort_is}
 use Rattle.fof_plan.proofs.PlanLaws.{unit-atom, unit-every, unit-exist, unit-opens, unit-out, unit-truth}
 use native.Mathlib.Omega.{arith}
-use borrow.Author.Rules.{rules}
 use Rattle.fof_plan.proofs.plan.unit.Goals as goal
 
-pub returns-then-code-eq0 : goal.returns-then-code-eq0
-returns-then-code-eq0 c = let a = c.args in unit-atom a.code (sort_is a.sort) c.if-code-eq0.true c.leading.ensures
+pub returns-in-Lower : goal.returns-in-Lower
+returns-in-Lower c = let a = c.args in unit-atom (code_is a.sign) (sort_is a.sort) (ap code_is c.in-Lower.is) c.leading.ensures
 
-pub returns-then-code-eq2 : goal.returns-then-code-eq2
-returns-then-code-eq2 c = let a = c.args in unit-truth a.code (sort_is a.sort) c.if-code-eq2.true (c.topped.ensures a.code 0 (omega (arith, c.if-code-eq2.true)))
+pub returns-in-Truth : goal.returns-in-Truth
+returns-in-Truth c = let a = c.args in let k = (ap code_is c.in-Truth.is) in unit-truth (code_is a.sign) (sort_is a.sort) k (c.topped.ensures (code_is a.sign) 0 (omega (arith, k)))
 
-pub returns-then-code-eq3 : goal.returns-then-code-eq3
-returns-then-code-eq3 c = let a = c.args in unit-opens a.code a.sort c.if-code-eq3.true c.leading-then-code-eq3.ensures
+pub returns-in-Opens : goal.returns-in-Opens
+returns-in-Opens c = let a = c.args in unit-opens (code_is a.sign) a.sort (ap code_is c.in-Opens.is) c.leading-in-Opens.ensures
 
-pub returns-then-code-eq10 : goal.returns-then-code-eq10
-returns-then-code-eq10 c = let a = c.args in unit-every a.code (sort_is a.sort) c.if-code-eq10.true (c.quantified.ensures a.code 0 (omega (arith, c.if-code-eq10.true)))
+pub returns-in-Every : goal.returns-in-Every
+returns-in-Every c = let a = c.args in let k = (ap code_is c.in-Every.is) in unit-every (code_is a.sign) (sort_is a.sort) k (c.quantified.ensures (code_is a.sign) 0 (omega (arith, k)))
 
-pub returns-then-code-eq11 : goal.returns-then-code-eq11
-returns-then-code-eq11 c = let a = c.args in unit-exist a.code (sort_is a.sort) c.if-code-eq11.true (c.quantified-then-code-eq11.ensures a.code 0 (omega (arith, c.if-code-eq11.true)))
+pub returns-in-Exist : goal.returns-in-Exist
+returns-in-Exist c = let a = c.args in let k = (ap code_is c.in-Exist.is) in unit-exist (code_is a.sign) (sort_is a.sort) k (c.quantified-in-Exist.ensures (code_is a.sign) 0 (omega (arith, k)))
 
-pub returns : goal.returns
-returns c = let a = c.args in unit-out (sort_is a.sort) a.code c.if-code-eq0.false c.if-code-eq2.false c.if-code-eq3.false c.if-code-eq10.false c.if-code-eq11.false c.refused.ensures
+pub returns-in_default : goal.returns-in_default
+returns-in_default c = let a = c.args in unit-out (sort_is a.sort) (code_is a.sign) (λ e. c.in_default.not-Lower (code-only a.sign S.Lower e)) (λ e. c.in_default.not-Truth (code-only a.sign S.Truth e)) (λ e. c.in_default.not-Opens (code-only a.sign S.Opens e)) (λ e. c.in_default.not-Every (code-only a.sign S.Every e)) (λ e. c.in_default.not-Exist (code-only a.sign S.Exist e)) c.refused.ensures

@@ -3,17 +3,16 @@ use mathlib.Core.Path.{sym, ◌∙◌}
 use Rattle.fof_tokens.specs.declared.first.First.TheVariants as first
 use Rattle.fof_tokens.proofs.BeginLaws.{space-begins, small-begins, capital-begins, nonzero-begins, other_at, other-table, no_other, rest-begins}
 use native.Mathlib.Omega.{arith}
-use borrow.Author.Rules.{rules}
 use Rattle.fof_tokens.proofs.first.begin.Goals as goal
 
 pub returns-then-is_space : goal.returns-then-is_space
 returns-then-is_space c = space-begins c.args.c (sym c.is_space.ensures ∙ c.if-is_space.true)
 
-pub returns-then-is_small : goal.returns-then-is_small
-returns-then-is_small c = small-begins c.args.c (sym c.is_small.ensures ∙ c.if-is_small.true)
+pub returns-then-is_ascii_lowercase : goal.returns-then-is_ascii_lowercase
+returns-then-is_ascii_lowercase c = small-begins c.args.c (sym c.is_ascii_lowercase.ensures.value ∙ c.if-is_ascii_lowercase.true)
 
-pub returns-then-is_capital : goal.returns-then-is_capital
-returns-then-is_capital c = capital-begins c.args.c (sym c.is_capital.ensures ∙ c.if-is_capital.true)
+pub returns-then-is_ascii_uppercase : goal.returns-then-is_ascii_uppercase
+returns-then-is_ascii_uppercase c = capital-begins c.args.c (sym c.is_ascii_uppercase.ensures.value ∙ c.if-is_ascii_uppercase.true)
 
 pub returns-then-is_nonzero : goal.returns-then-is_nonzero
 returns-then-is_nonzero c = nonzero-begins c.args.c (sym c.is_nonzero.ensures ∙ c.if-is_nonzero.true)
@@ -40,4 +39,4 @@ pub returns-in_default : goal.returns-in_default
 returns-in_default c =
     let x = c.args.c in
     let y = c.ranges.c.fits in
-    rest-begins x c.sign_first.result (omega arith) (sym c.is_space.ensures ∙ c.if-is_space.false) (sym c.is_small.ensures ∙ c.if-is_small.false) (sym c.is_capital.ensures ∙ c.if-is_capital.false) (sym c.is_nonzero.ensures ∙ c.if-is_nonzero.false) (no_other x c.in_default.in_default-own.rest.0.0.0.0.0.1 c.in_default.in_default-own.rest.0.0.0.0.1 c.in_default.in_default-own.rest.0.0.0.1 c.in_default.in_default-own.rest.0.0.1 c.in_default.in_default-own.rest.0.1 c.in_default.in_default-own.rest.1) c.in_default.in_default-own.rest.0.0.0.0.1 c.sign_first.ensures
+    rest-begins x c.sign_first.result (omega arith) (sym c.is_space.ensures ∙ c.if-is_space.false) (sym c.is_ascii_lowercase.ensures.value ∙ c.if-is_ascii_lowercase.false) (sym c.is_ascii_uppercase.ensures.value ∙ c.if-is_ascii_uppercase.false) (sym c.is_nonzero.ensures ∙ c.if-is_nonzero.false) (no_other x c.in_default.in_default-own.rest.0.0.0.0.0.1 c.in_default.in_default-own.rest.0.0.0.0.1 c.in_default.in_default-own.rest.0.0.0.1 c.in_default.in_default-own.rest.0.0.1 c.in_default.in_default-own.rest.0.1 c.in_default.in_default-own.rest.1) c.in_default.in_default-own.rest.0.0.0.0.1 c.sign_first.ensures

@@ -3,7 +3,6 @@ use mathlib.Core.Path.{sym, ◌∙◌}
 use Rattle.fof_tokens.proofs.ScanLaws.{known}
 use Rattle.fof_tokens.proofs.GapLaws.{star-none, star-more}
 use native.Mathlib.Omega.{arith}
-use borrow.Author.Rules.{rules}
 use Rattle.fof_tokens.proofs.gaps.block_end.Goals as goal
 
 pub returns-then-byte-ne42 : goal.returns-then-byte-ne42

@@ -2,7 +2,6 @@
 use Rattle.fof_tokens.proofs.ScanLaws.{known}
 use Rattle.fof_tokens.proofs.GapLaws.{shuts-first, shuts-second}
 use native.Mathlib.Omega.{arith}
-use borrow.Author.Rules.{rules}
 use Rattle.fof_tokens.proofs.gaps.shuts.Goals as goal
 
 pub returns-then-byte-ne42 : goal.returns-then-byte-ne42

@@ -1,11 +1,6 @@
 -- `text_end` (src/gaps.rt): the comment ends where it ended as seen from each byte passed.
-use Prim.Native.Nat.{◌-◌}
-use mathlib.Core.Path.{◌≡◌, refl, sym, ◌∙◌}
-use lib.ListN.{length, drop}
-use Rattle.fof_tokens.specs.Machine.{soonest}
-use Rattle.fof_tokens.specs.Begins.{comment_text}
+use mathlib.Core.Path.{refl, sym, ◌∙◌}
 use Rattle.fof_tokens.proofs.GapLaws.{text-none, text-more, text-shuts}
-use borrow.Author.Rules.{rules}
 use Rattle.fof_tokens.proofs.gaps.text_end.Goals as goal
 
 pub loop-i-init : goal.loop-i-init

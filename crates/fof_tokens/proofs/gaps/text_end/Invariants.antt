@@ -1,10 +1,8 @@
 use Prim.Native.Nat.{◌-◌}
-use mathlib.Core.Path.{◌≡◌, refl, sym, ◌∙◌}
+use mathlib.Core.Path.{◌≡◌}
 use lib.ListN.{length, drop}
 use Rattle.fof_tokens.specs.Machine.{soonest}
 use Rattle.fof_tokens.specs.Begins.{comment_text}
-use Rattle.fof_tokens.proofs.GapLaws.{text-none, text-more, text-shuts}
-use borrow.Author.Rules.{rules}
 use Rattle.fof_tokens.proofs.gaps.text_end.Given as goal
 
 abbrev pub invariant-loop-i : goal.invariant-loop-i

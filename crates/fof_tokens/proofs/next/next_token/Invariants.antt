@@ -1,11 +1,7 @@
 use Prim.Native.Nat.{◌-◌}
-use mathlib.Core.Path.{◌≡◌, refl, sym, ◌∙◌, ap}
+use mathlib.Core.Path.{◌≡◌}
 use lib.ListN.{length}
-use Rattle.fof_tokens.specs.Found.{found_of}
 use Rattle.fof_tokens.specs.Next.{lexed_at}
-use Rattle.fof_tokens.proofs.NextLaws.{lexed-gap, lexed-token, lexed-bad, lexed-end}
-use native.Mathlib.Omega.{arith}
-use borrow.Author.Rules.{rules}
 use Rattle.fof_tokens.proofs.next.next_token.Given as goal
 
 abbrev pub invariant-loop-i : goal.invariant-loop-i

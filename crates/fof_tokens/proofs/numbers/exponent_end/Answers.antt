@@ -4,7 +4,6 @@ use borrow.Author.Tests.{not-true, not-false}
 use Rattle.fof_tokens.specs.Bytes.{is_exponent}
 use Rattle.fof_tokens.proofs.NumberLaws.{exponent-in-text, exponent-none, exponent-more}
 use native.Mathlib.Omega.{arith}
-use borrow.Author.Rules.{rules}
 use Rattle.fof_tokens.proofs.numbers.exponent_end.Goals as goal
 
 pub returns-then-not-is_exponent : goal.returns-then-not-is_exponent

@@ -8,7 +8,6 @@ use Rattle.fof_tokens.specs.Machine.{ended, note}
 use Rattle.fof_tokens.proofs.ScanLaws.{known}
 use Rattle.fof_tokens.proofs.NumberLaws.{in-text, zero_or, number-zero, number-nonzero, decimal-run}
 use native.Mathlib.Omega.{arith}
-use borrow.Author.Rules.{rules}
 use Rattle.fof_tokens.proofs.numbers.number.Goals as goal
 
 pub overflow_add-at : goal.overflow_add-at

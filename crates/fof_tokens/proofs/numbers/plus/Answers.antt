@@ -5,11 +5,10 @@ use mathlib.Core.Option.{none}
 use Rattle.fof_tokens.specs.Bytes.{is_digit}
 use Rattle.fof_tokens.specs.Begins.{unsigned}
 use Rattle.fof_tokens.proofs.NumberLaws.{plus_none, unsigned-digits}
-use borrow.Author.Rules.{rules}
 use Rattle.fof_tokens.proofs.numbers.plus.Goals as goal
 
-pub returns-then-not-is_digit : goal.returns-then-not-is_digit
-returns-then-not-is_digit c = let x = c.args in plus_none x.at x.text.now (ap is_digit (sym c.byte.ensures) ∙ sym c.is_digit.ensures ∙ not-true _ c.if-not-is_digit.true-raw)
+pub returns-then-not-is_ascii_digit : goal.returns-then-not-is_ascii_digit
+returns-then-not-is_ascii_digit c = let x = c.args in plus_none x.at x.text.now (ap is_digit (sym c.byte.ensures) ∙ sym c.is_ascii_digit.ensures.value ∙ not-true _ c.if-not-is_ascii_digit.true-raw)
 
 pub returns : goal.returns
-returns c = c.number.ensures unsigned none unsigned-digits (ap is_digit (sym c.byte.ensures) ∙ sym c.is_digit.ensures ∙ not-false _ c.if-not-is_digit.false-raw)
+returns c = c.number.ensures unsigned none unsigned-digits (ap is_digit (sym c.byte.ensures) ∙ sym c.is_ascii_digit.ensures.value ∙ not-false _ c.if-not-is_ascii_digit.false-raw)

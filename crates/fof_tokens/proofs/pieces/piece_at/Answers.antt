@@ -1,7 +1,6 @@
 -- `piece_at` (src/pieces.rt): the end of the text, or a first byte and what follows.
 use mathlib.Core.Path.{◌∙◌}
 use Rattle.fof_tokens.proofs.PieceAtLaws.{piece-none, piece-begun}
-use borrow.Author.Rules.{rules}
 use Rattle.fof_tokens.proofs.pieces.piece_at.Goals as goal
 
 pub returns-then-text-at : goal.returns-then-text-at

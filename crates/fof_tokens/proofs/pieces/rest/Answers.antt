@@ -7,7 +7,6 @@ use Rattle.fof_tokens.specs.declared.first.First.TheVariants as first
 use Rattle.fof_tokens.specs.Machine.{token}
 use Rattle.fof_tokens.proofs.NumberLaws.{decimal-run}
 use Rattle.fof_tokens.proofs.PieceAtLaws.{rest-is, rest-nothing, rest-space, rest-line, rest-slash, rest-word, rest-quote, rest-double-quote, rest-dollar, rest-zero, rest-nonzero, rest-plus, rest-minus, rest-single, rest-double, rest-tilde, rest-less}
-use borrow.Author.Rules.{rules}
 use Rattle.fof_tokens.proofs.pieces.rest.Goals as goal
 
 pub quoted_end-requires : goal.quoted_end-requires

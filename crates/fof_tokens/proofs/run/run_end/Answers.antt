@@ -1,21 +1,23 @@
--- `run_end` (src/run.rt): what is passed and what is still to be passed are as many together at each turn.
-use Prim.Native.Nat.{◌+◌, ◌-◌}
-use mathlib.Core.Path.{◌≡◌, refl, sym, ◌∙◌}
-use borrow.Author.Tests.{not-true, not-false}
-use lib.ListN.{length, drop}
-use Rattle.fof_tokens.specs.Runs.{passes, span}
-use Rattle.fof_tokens.proofs.ScanLaws.{span-next, span-stop, span-end}
-use borrow.Author.Rules.{rules}
+-- `run_end` (src/run.rt): behind the text's end nothing is passed, before it what the library counts.
+use Prim.Native.Nat.{ℕ, ◌+◌, ◌-◌}
+use mathlib.Core.Path.{refl, ◌∙◌, ap}
+use mathlib.Core.List.{List}
+use native.Mathlib.Omega.{arith}
+use lib.ListN.{length, drop, length-drop}
+use lib.Seq.{take_all}
+use Rattle.std.specs.List.{prefix_len}
+use Rattle.fof_tokens.specs.Runs.{passes}
+use Rattle.fof_tokens.proofs.ScanLaws.{span-end}
+use Rattle.fof_tokens.proofs.RunLaws.{span-prefix}
 use Rattle.fof_tokens.proofs.run.run_end.Goals as goal
 
-pub loop-i-init : goal.loop-i-init
-loop-i-init c = refl
-
-pub returns-then-not-in_class : goal.returns-then-not-in_class
-returns-then-not-in_class c = let x = c.args in span-stop (passes x.class) x.text.now x.at c.loop-i.i c.loop-i-test.true (sym c.in_class.ensures ∙ not-true _ c.if-not-in_class.true-raw) c.loop-i.invariant
-
-pub loop-i-preserved : goal.loop-i-preserved
-loop-i-preserved c = let x = c.args in span-next (passes x.class) x.text.now x.at c.loop-i.i c.loop-i-test.true (sym c.in_class.ensures ∙ not-false _ c.if-not-in_class.false-raw) c.loop-i.invariant
+pub returns-then-text-at : goal.returns-then-text-at
+returns-then-text-at c = let x = c.args in span-end (passes x.class) x.text.now x.at x.at c.if-text-at.true refl
 
 pub returns : goal.returns
-returns c = let x = c.args in span-end (passes x.class) x.text.now x.at c.loop-i.i c.loop-i-test.false c.loop-i.invariant
+returns c =
+    let x = c.args in
+    ap (λ (n : ℕ). x.at + n)
+    (c.run_length.ensures.value
+    ∙ ap (λ (t : List ℕ). prefix_len (passes x.class) t) (take_all (length x.text.now - x.at) (drop x.at x.text.now) (rw length-drop (omega arith)))
+    ∙ span-prefix (passes x.class) (drop x.at x.text.now))

@@ -3,7 +3,6 @@ use mathlib.Core.Path.{sym, ◌∙◌}
 use Rattle.fof_tokens.proofs.ScanLaws.{known}
 use Rattle.fof_tokens.proofs.SignLaws.{less_equal, less_none, wave-none, wave-more}
 use native.Mathlib.Omega.{arith}
-use borrow.Author.Rules.{rules}
 use Rattle.fof_tokens.proofs.signs.less.Goals as goal
 
 pub overflow_add-at : goal.overflow_add-at

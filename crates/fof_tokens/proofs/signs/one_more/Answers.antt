@@ -1,6 +1,5 @@
 -- `one_more` (src/signs.rt): the byte is there, another is, or the text ends.
 use Rattle.fof_tokens.proofs.SignLaws.{one-more-end, one-more-other, one-more-same}
-use borrow.Author.Rules.{rules}
 use Rattle.fof_tokens.proofs.signs.one_more.Goals as goal
 
 pub returns-then-text-at : goal.returns-then-text-at

@@ -3,7 +3,6 @@ use mathlib.Core.Path.{sym, ◌∙◌}
 use Rattle.fof_tokens.proofs.ScanLaws.{known}
 use Rattle.fof_tokens.proofs.SignLaws.{tilde-nor, tilde-nand, tilde-not}
 use native.Mathlib.Omega.{arith}
-use borrow.Author.Rules.{rules}
 use Rattle.fof_tokens.proofs.signs.tilde.Goals as goal
 
 pub overflow_add-result : goal.overflow_add-result

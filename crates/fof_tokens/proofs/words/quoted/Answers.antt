@@ -4,7 +4,6 @@ use mathlib.Core.Option.{none}
 use Rattle.fof_tokens.specs.declared.Kind.TheVariants.{Quoted}
 use Rattle.fof_tokens.specs.Machine.{token}
 use Rattle.fof_tokens.proofs.WordLaws.{quote-empty, quote-as}
-use borrow.Author.Rules.{rules}
 use Rattle.fof_tokens.proofs.words.quoted.Goals as goal
 
 pub returns-then-byte-eq39 : goal.returns-then-byte-eq39

@@ -1,15 +1,10 @@
 -- `quoted_end` (src/words.rt): at each turn what is still to come decides where the text ends.
-use Prim.Native.Nat.{ℕ, ◌+◌, ◌-◌}
-use mathlib.Core.Path.{◌≡◌, refl, sym, ◌∙◌, ap}
-use mathlib.Core.Option.{Option}
+use Prim.Native.Nat.{◌+◌}
+use mathlib.Core.Path.{refl, sym, ◌∙◌, ap}
 use borrow.Author.Tests.{not-true, not-false}
-use lib.ListN.{length, drop}
 use Rattle.fof_tokens.specs.Bytes.{is_escaped}
-use Rattle.fof_tokens.specs.Machine.{Sort, scan}
-use Rattle.fof_tokens.specs.Begins.{in_quotes}
 use Rattle.fof_tokens.proofs.WordLaws.{escaped-in-text, quotes-shut, quotes-escape-none, quotes-escape, quotes-plain, quotes-none, quotes-end}
 use native.Mathlib.Omega.{arith}
-use borrow.Author.Rules.{rules}
 use Rattle.fof_tokens.proofs.words.quoted_end.Goals as goal
 
 pub loop-i-init : goal.loop-i-init

@@ -1,14 +1,9 @@
-use Prim.Native.Nat.{ℕ, ◌+◌, ◌-◌}
-use mathlib.Core.Path.{◌≡◌, refl, sym, ◌∙◌, ap}
+use Prim.Native.Nat.{ℕ, ◌-◌}
+use mathlib.Core.Path.{◌≡◌}
 use mathlib.Core.Option.{Option}
-use borrow.Author.Tests.{not-true, not-false}
 use lib.ListN.{length, drop}
-use Rattle.fof_tokens.specs.Bytes.{is_escaped}
 use Rattle.fof_tokens.specs.Machine.{Sort, scan}
 use Rattle.fof_tokens.specs.Begins.{in_quotes}
-use Rattle.fof_tokens.proofs.WordLaws.{escaped-in-text, quotes-shut, quotes-escape-none, quotes-escape, quotes-plain, quotes-none, quotes-end}
-use native.Mathlib.Omega.{arith}
-use borrow.Author.Rules.{rules}
 use Rattle.fof_tokens.proofs.words.quoted_end.Given as goal
 
 abbrev pub invariant-loop-i : goal.invariant-loop-i

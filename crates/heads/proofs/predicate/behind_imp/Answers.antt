@@ -8,4 +8,4 @@ pub returns-in_default : goal.returns-in_default
 returns-in_default c = λ nest. imp-lost nest c.past_part.ensures c.in_default.is
 
 pub returns : goal.returns
-returns c = λ nest. imp_head nest c.past_part.ensures c.in-Next.is c.further.ensures c.same_there.ensures
+returns c = λ nest. imp_head nest c.past_part.ensures c.in-Some.is c.further.ensures c.same_there.ensures

@@ -30,13 +30,13 @@ returns-in_default-past c = let x = c.args in
 pub loop-i-smaller : goal.loop-i-smaller
 loop-i-smaller c = let x = c.args in
     let l = c.loop-i in
-    let h = past-on x.s.now l.p 64 c.in-Next.is c.past.ensures in
+    let h = past-on x.s.now l.p 64 c.in-Some.is c.past.ensures in
     omega (arith, h.0, h.1)
 
 pub loop-i-preserved : goal.loop-i-preserved
 loop-i-preserved c = let x = c.args in
     let l = c.loop-i in
-    left-next x.s.now x.t.now x.i x.j l.p l.q l.invariant c.closes.ensures (not-true c.closes.result c.loop-i-test.true-raw) c.closes-in-loop-i.ensures c.if-closes.false c.in-Next.is c.past.ensures c.in-Next-past.is c.past-in-loop-i.ensures
+    left-next x.s.now x.t.now x.i x.j l.p l.q l.invariant c.closes.ensures (not-true c.closes.result c.loop-i-test.true-raw) c.closes-in-loop-i.ensures c.if-closes.false c.in-Some.is c.past.ensures c.in-Some-past.is c.past-in-loop-i.ensures
 
 pub returns : goal.returns
 returns c = let x = c.args in

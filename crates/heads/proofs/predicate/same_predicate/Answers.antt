@@ -19,4 +19,4 @@ returns-in_default-past c = let x = c.args in
 
 pub returns : goal.returns
 returns c = let x = c.args in
-    named-alike x.s.now x.t.now c.same_text.ensures (not-false c.same_text.result c.if-not-same_text.false-raw) c.past.ensures c.in-Next.is c.past-2.ensures c.in-Next-past.is c.same_number.ensures
+    named-alike x.s.now x.t.now c.same_text.ensures (not-false c.same_text.result c.if-not-same_text.false-raw) c.past.ensures c.in-Some.is c.past-2.ensures c.in-Some-past.is c.same_number.ensures

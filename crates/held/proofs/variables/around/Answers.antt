@@ -1,7 +1,6 @@
 -- `around` of src/variables.rt meets its contract. Assumes nothing.
 use Rattle.held.proofs.VariableLaws.{around-all, around-some, around-none}
 use native.Mathlib.Omega.{arith}
-use borrow.Author.Rules.{rules}
 use Rattle.held.proofs.variables.around.Goals as goal
 
 pub returns-then-is_word : goal.returns-then-is_word

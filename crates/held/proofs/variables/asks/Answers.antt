@@ -1,8 +1,6 @@
 -- `asks` of src/variables.rt meets its contract. Assumes nothing.
 use Rattle.room.specs.Spot.{bindings_at}
 use Rattle.held.proofs.VariableLaws.{asked-open, asked-also, asked-not}
-use native.Mathlib.Omega.{arith}
-use borrow.Author.Rules.{rules}
 use Rattle.held.proofs.variables.asks.Goals as goal
 
 pub returns-then-is_open : goal.returns-then-is_open

@@ -4,8 +4,6 @@ use Rattle.room.specs.Spot.{bindings_at}
 use Rattle.mentions.specs.Open.{asked}
 use Rattle.held.proofs.VariableLaws.{held-never, holding}
 use Rattle.held.proofs.MeetLaws.{met-asked, met-past, met-nothing}
-use native.Mathlib.Omega.{arith}
-use borrow.Author.Rules.{rules}
 use Rattle.held.proofs.variables.holds.Goals as goal
 
 pub returns-then-is_idle : goal.returns-then-is_idle

@@ -1,8 +1,6 @@
 -- `is_idle` of src/variables.rt meets its contract. Assumes nothing.
 use mathlib.Core.Bool.{false≢true}
 use Rattle.held.proofs.VariableLaws.{asked-idle}
-use native.Mathlib.Omega.{arith}
-use borrow.Author.Rules.{rules}
 use Rattle.held.proofs.variables.is_idle.Goals as goal
 
 pub returns-then-also : goal.returns-then-also

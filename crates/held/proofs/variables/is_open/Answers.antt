@@ -1,8 +1,6 @@
 -- `is_open` of src/variables.rt meets its contract. Assumes nothing.
 use Rattle.room.specs.Spot.{bindings_at}
 use Rattle.held.proofs.VariableLaws.{open_own, open-other}
-use native.Mathlib.Omega.{arith}
-use borrow.Author.Rules.{rules}
 use Rattle.held.proofs.variables.is_open.Goals as goal
 
 pub returns-then-i-own : goal.returns-then-i-own

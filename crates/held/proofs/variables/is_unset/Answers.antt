@@ -1,8 +1,6 @@
 -- `is_unset` of src/variables.rt meets its contract. Assumes nothing.
 use mathlib.Core.Path.{sym, ap}
 use Rattle.mentions.specs.Open.{is_unset}
-use native.Mathlib.Omega.{arith}
-use borrow.Author.Rules.{rules}
 use Rattle.held.proofs.variables.is_unset.Goals as goal
 
 pub returns-in-Candidate : goal.returns-in-Candidate

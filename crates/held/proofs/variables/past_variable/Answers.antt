@@ -2,7 +2,6 @@
 use borrow.Author.Tests.{not-false}
 use Rattle.held.proofs.MeetLaws.{variable-ends}
 use native.Mathlib.Omega.{arith}
-use borrow.Author.Rules.{rules}
 use Rattle.held.proofs.variables.past_variable.Goals as goal
 
 pub returns : goal.returns

@@ -2,12 +2,12 @@
 use Rattle.judge.proofs.RootLaws.{strip-fits, strip-misfits}
 use Rattle.judge.proofs.request.judge_strip.Goals as goal
 
-pub returns-in-Fits : goal.returns-in-Fits
-returns-in-Fits c =
+pub returns-in-Ok : goal.returns-in-Ok
+returns-in-Ok c =
     let x = c.args in
-    strip-fits x.rules.now x.goal.now x.terms.now x.strip.now x.room.now c.node.new.room c.first_place.result c.node.result c.first_place.ensures c.node.ensures.judged c.in-Fits.is
+    strip-fits x.files.now x.strip.now x.room.now c.node.new.room c.first_place.result c.node.result c.first_place.ensures c.node.ensures.judged c.in-Ok.is
 
-pub returns-in-Misfit : goal.returns-in-Misfit
-returns-in-Misfit c =
+pub returns-in-Err : goal.returns-in-Err
+returns-in-Err c =
     let x = c.args in
-    strip-misfits x.rules.now x.goal.now x.terms.now x.strip.now x.room.now c.node.new.room c.first_place.result c.node.result c.first_place.ensures c.node.ensures.judged c.in-Misfit.is
+    strip-misfits x.files.now x.strip.now x.room.now c.node.new.room c.first_place.result c.node.result c.first_place.ensures c.node.ensures.judged c.in-Err.is

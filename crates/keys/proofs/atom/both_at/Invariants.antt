@@ -1,10 +1,7 @@
 use Prim.Native.Nat.{◌-◌}
 use lib.ListN.{length}
-use borrow.Author.Tests.{not-true, not-false}
-use Rattle.equal.proofs.RestLaws.{past-on}
-use Rattle.keys.proofs.AtomLaws.{RowLeft, row-start, row-lost, row_next, row-end}
-use Rattle.keys.proofs.WalkLaws.{KeysLeft, keys-start, keys-lost, keys-next, keys-end}
-use borrow.Author.Rules.{rules}
+use Rattle.keys.proofs.AtomLaws.{RowLeft}
+use Rattle.keys.proofs.WalkLaws.{KeysLeft}
 use Rattle.keys.proofs.atom.both_at.Given as goal
 
 abbrev pub invariant-loop-x : goal.invariant-loop-x

@@ -1,6 +1,5 @@
 -- `both_of` of src/atom.rt meets its contract. Assumes nothing.
 use Rattle.keys.proofs.AtomLaws.{predicate-lost, predicate-made, atom-lost, atom-made}
-use borrow.Author.Rules.{rules}
 use Rattle.keys.proofs.atom.both_of.Goals as goal
 
 pub returns-in_default : goal.returns-in_default
@@ -10,4 +9,4 @@ returns-in_default c = let x = c.args in
 pub returns : goal.returns
 returns c = let x = c.args in
     let m = c.both_at-b.ensures in
-    (predicate-made x.t.now c.even.result c.in-Next.is c.past.ensures c.text_key.ensures m.0 c.even.ensures, atom-made x.t.now x.room.now x.x c.odd.result c.in-Next.is c.past.ensures c.text_key.ensures m.1 c.odd.ensures)
+    (predicate-made x.t.now c.even.result c.in-Some.is c.past.ensures c.text_key.ensures m.0 c.even.ensures, atom-made x.t.now x.room.now x.x c.odd.result c.in-Some.is c.past.ensures c.text_key.ensures m.1 c.odd.ensures)

@@ -1,9 +1,6 @@
 use Prim.Native.Nat.{◌-◌}
 use lib.ListN.{length}
-use borrow.Author.Tests.{not-true, not-false}
-use Rattle.equal.proofs.RestLaws.{past-on}
-use Rattle.keys.proofs.AtomLaws.{RowLeft, row-start, row-lost, row_next, row-end}
-use borrow.Author.Rules.{rules}
+use Rattle.keys.proofs.AtomLaws.{RowLeft}
 use Rattle.keys.proofs.atom.row_key.Given as goal
 
 abbrev pub invariant-loop-k : goal.invariant-loop-k

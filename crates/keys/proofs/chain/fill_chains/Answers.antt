@@ -1,6 +1,5 @@
 -- `fill_chains` of src/chain.rt meets its contract. Assumes nothing.
 use Rattle.keys.proofs.ChainLaws.{chains-filled}
-use borrow.Author.Rules.{rules}
 use Rattle.keys.proofs.chain.fill_chains.Goals as goal
 
 pub returns : goal.returns

@@ -1,10 +1,9 @@
 -- `link_all` of src/chain.rt meets its contract. Assumes nothing.
-use Prim.Native.Nat.{◌-◌, ◌≤◌, ◌<◌, min}
+use Prim.Native.Nat.{◌-◌, min}
 use mathlib.Core.Path.{◌≡◌, subst}
 use native.Mathlib.Omega.{arith}
 use Rattle.keys.specs.Chains.{LinkedFrom}
 use Rattle.keys.proofs.ChainLaws.{linked-none, linked-next}
-use borrow.Author.Rules.{rules}
 use Rattle.keys.proofs.chain.link_all.Goals as goal
 
 pub loop-k-init : goal.loop-k-init

@@ -2,7 +2,6 @@
 use Prim.Native.Nat.{◌-◌}
 use mathlib.Core.Path.{refl}
 use Rattle.keys.proofs.NextLaws.{begin-first, begin-after}
-use borrow.Author.Rules.{rules}
 use Rattle.keys.proofs.next.begin.Goals as goal
 
 pub returns-then-from-eq0 : goal.returns-then-from-eq0

@@ -1,6 +1,5 @@
 -- `has_number` of src/next.rt meets its contract. Assumes nothing.
 use Rattle.keys.proofs.NextLaws.{number-before, number-tested}
-use borrow.Author.Rules.{rules}
 use Rattle.keys.proofs.next.has_number.Goals as goal
 
 pub returns-then-r-from : goal.returns-then-r-from

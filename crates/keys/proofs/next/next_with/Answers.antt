@@ -1,7 +1,5 @@
 -- `next_with` of src/next.rt meets its contract. Assumes nothing.
-use Prim.Native.Nat.{◌-◌}
-use Rattle.keys.proofs.NextLaws.{Walked, walk_start, walk-found, walk_end, walk-back, walk-next}
-use borrow.Author.Rules.{rules}
+use Rattle.keys.proofs.NextLaws.{walk_start, walk-found, walk_end, walk-back, walk-next}
 use Rattle.keys.proofs.next.next_with.Goals as goal
 
 pub loop-r-init : goal.loop-r-init

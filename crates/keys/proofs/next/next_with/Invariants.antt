@@ -1,6 +1,5 @@
 use Prim.Native.Nat.{◌-◌}
-use Rattle.keys.proofs.NextLaws.{Walked, walk_start, walk-found, walk_end, walk-back, walk-next}
-use borrow.Author.Rules.{rules}
+use Rattle.keys.proofs.NextLaws.{Walked}
 use Rattle.keys.proofs.next.next_with.Given as goal
 
 abbrev pub invariant-loop-r : goal.invariant-loop-r

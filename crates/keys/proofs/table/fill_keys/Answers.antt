@@ -1,6 +1,5 @@
 -- `fill_keys` of src/table.rt meets its contract. Assumes nothing.
 use Rattle.keys.proofs.FillLaws.{keys_filled}
-use borrow.Author.Rules.{rules}
 use Rattle.keys.proofs.table.fill_keys.Goals as goal
 
 pub returns : goal.returns

@@ -1,14 +1,6 @@
-use Prim.Native.Nat.{◌-◌, ◌≤◌, min}
-use mathlib.Core.Path.{◌≡◌, subst}
-use lib.ListN.{get_or}
+use Prim.Native.Nat.{◌-◌, ◌≤◌}
 use Rattle.keys.specs.Keys.{RulesDone}
-use Rattle.keys.proofs.FillLaws.{rules-none, rules-more}
-use native.Mathlib.Omega.{arith}
-use borrow.Author.Rules.{rules}
 use Rattle.keys.proofs.table.keep_rules.Given as goal
 
 abbrev pub invariant-loop-i : goal.invariant-loop-i
-invariant-loop-i l = (l.i ≤ l.n) × RulesDone l.initial.room l.room l.rules l.i
-
-abbrev pub decreases-loop-i : goal.decreases-loop-i
-decreases-loop-i l = l.n - l.i
+invariant-loop-i l = RulesDone l.initial.room l.room l.rules l.i

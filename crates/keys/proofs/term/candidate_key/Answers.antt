@@ -2,7 +2,6 @@
 use mathlib.Core.Path.{sym, ◌∙◌}
 use Rattle.keys.proofs.WalkLaws.{listed, unlisted}
 use native.Mathlib.Omega.{arith}
-use borrow.Author.Rules.{rules}
 use Rattle.keys.proofs.term.candidate_key.Goals as goal
 
 pub returns-then-i-word : goal.returns-then-i-word

@@ -1,25 +1,23 @@
 -- `by_fact` of src/facts.rt meets its contract. Assumes nothing.
-use Rattle.room.specs.Where.{files_of}
 use Rattle.narrow.proofs.FactLaws.{fact-by-head, fact-never, fact-is}
-use borrow.Author.Rules.{rules}
 use Rattle.narrow.proofs.facts.by_fact.Goals as goal
 
-pub returns-then-asked-eq0 : goal.returns-then-asked-eq0
-returns-then-asked-eq0 c = let x = c.args in
-    fact-by-head (files_of x.rules.now x.goal.now x.terms.now) x.room.now x.x x.y x.own x.v x.asked x.kept x.marks.now c.by_head.ensures
+pub returns-then-a-eq0 : goal.returns-then-a-eq0
+returns-then-a-eq0 c = let x = c.args in
+    fact-by-head x.files.now x.room.now x.a.atom x.y x.a.own x.a.variable x.a.arguments x.kept x.marks.now c.by_head.ensures
 
 pub returns-then-kept-eq0 : goal.returns-then-kept-eq0
 returns-then-kept-eq0 c = let x = c.args in
-    fact-by-head (files_of x.rules.now x.goal.now x.terms.now) x.room.now x.x x.y x.own x.v x.asked x.kept x.marks.now c.by_head-then-kept-eq0.ensures
+    fact-by-head x.files.now x.room.now x.a.atom x.y x.a.own x.a.variable x.a.arguments x.kept x.marks.now c.by_head-then-kept-eq0.ensures
 
-pub returns-then-c-eq0 : goal.returns-then-c-eq0
-returns-then-c-eq0 c = let x = c.args in
-    fact-by-head (files_of x.rules.now x.goal.now x.terms.now) x.room.now x.x x.y x.own x.v x.asked x.kept x.marks.now c.by_head-then-c-eq0.ensures
+pub returns-in-Nothing : goal.returns-in-Nothing
+returns-in-Nothing c = let x = c.args in
+    fact-by-head x.files.now x.room.now x.a.atom x.y x.a.own x.a.variable x.a.arguments x.kept x.marks.now c.by_head-in-Nothing.ensures
 
-pub returns-then-c-eq1023 : goal.returns-then-c-eq1023
-returns-then-c-eq1023 c = let x = c.args in
-    fact-never (files_of x.rules.now x.goal.now x.terms.now) x.room.now x.x x.y x.own x.v x.asked x.kept x.marks.now c.if-asked-eq0.false c.if-kept-eq0.false c.between-c.result c.between-c.ensures c.if-c-eq1023.true
+pub returns-in-Never : goal.returns-in-Never
+returns-in-Never c = let x = c.args in
+    fact-never x.files.now x.room.now x.a.atom x.y x.a.own x.a.variable x.a.arguments x.kept x.marks.now c.if-a-eq0.false c.if-kept-eq0.false c.between.result c.between.ensures c.in-Never.is
 
-pub returns : goal.returns
-returns c = let x = c.args in
-    fact-is (files_of x.rules.now x.goal.now x.terms.now) x.room.now x.x x.y x.own x.v x.asked x.kept x.marks.now c.if-asked-eq0.false c.if-kept-eq0.false c.between-c.result c.between-c.ensures c.if-c-eq0.false c.mark.ensures
+pub returns-in-Candidate : goal.returns-in-Candidate
+returns-in-Candidate c = let x = c.args in
+    fact-is x.files.now x.room.now x.a.atom x.y x.a.own x.a.variable x.a.arguments x.kept x.marks.now c.if-a-eq0.false c.if-kept-eq0.false c.between.result c.between.ensures c.in-Candidate.is c.mark.ensures

@@ -1,7 +1,6 @@
 -- `rule_spot` of src/facts.rt meets its contract. Assumes nothing.
 use mathlib.Core.Path.{ap}
 use Rattle.narrow.specs.Heads.{in_rules}
-use borrow.Author.Rules.{rules}
 use Rattle.narrow.proofs.facts.rule_spot.Goals as goal
 
 pub returns : goal.returns

@@ -1,7 +1,6 @@
 -- `mark` of src/marks.rt meets its contract. Assumes nothing.
 use mathlib.Core.Path.{sym}
 use lib.Seq.{set_out}
-use borrow.Author.Rules.{rules}
 use Rattle.narrow.proofs.marks.mark.Goals as goal
 
 pub returns-else-k-marks : goal.returns-else-k-marks

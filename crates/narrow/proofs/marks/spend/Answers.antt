@@ -2,8 +2,7 @@
 use native.Mathlib.Omega.{arith}
 use Prim.Native.Nat.{◌+◌}
 use lib.ListN.{get_or}
-use Rattle.narrow.proofs.MarkLaws.{more-none, more-set}
-use borrow.Author.Rules.{rules}
+use Rattle.narrow.proofs.MarkLaws.{more-set}
 use Rattle.narrow.proofs.marks.spend.Goals as goal
 
 pub returns : goal.returns

@@ -1,7 +1,6 @@
 -- `again` of src/tried.rt meets its contract. Assumes nothing.
 use mathlib.Core.Path.{sym, ◌∙◌}
 use mathlib.Core.Bool.{false≢true}
-use borrow.Author.Rules.{rules}
 use Rattle.narrowing.proofs.tried.again.Goals as goal
 
 pub returns : goal.returns

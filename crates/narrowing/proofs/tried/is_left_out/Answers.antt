@@ -2,7 +2,6 @@
 use mathlib.Core.Bool.{false≢true}
 use lib.ListN.{get_or}
 use borrow.Author.Tests.{not-false, eqb-true}
-use borrow.Author.Rules.{rules}
 use Rattle.narrowing.proofs.tried.is_left_out.Goals as goal
 
 pub returns-then-not-narrowed : goal.returns-then-not-narrowed

@@ -1,7 +1,6 @@
 -- `narrow_body` of src/tried.rt meets its contract. Assumes nothing.
 use borrow.Author.Tests.{not-false}
 use Rattle.narrowing.proofs.TriedLaws.{body-nothing, body-narrowed}
-use borrow.Author.Rules.{rules}
 use Rattle.narrowing.proofs.tried.narrow_body.Goals as goal
 
 pub returns-then-not-p : goal.returns-then-not-p

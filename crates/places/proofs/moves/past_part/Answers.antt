@@ -3,4 +3,4 @@ use borrow.Author.Rules.{rules}
 use Rattle.places.proofs.moves.past_part.Goals as goal
 
 pub returns : goal.returns
-returns c = rw c.part.ensures at c.past.ensures
+returns c = rw c.part.ensures.bytes at c.past.ensures

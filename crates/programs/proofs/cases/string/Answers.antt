@@ -5,10 +5,10 @@ use native.Mathlib.Omega.{arith}
 use Rattle.programs.proofs.cases.string.Goals as goal
 
 pub overflow_add-result : goal.overflow_add-result
-overflow_add-result c = let k = string-inside (plain-span c.in-Span.is c.plain.ensures) in let m = k.1.1 in omega arith
+overflow_add-result c = let k = string-inside (plain-span c.in-Some.is c.plain.ensures) in let m = k.1.1 in omega arith
 
-pub returns-in-Nothing : goal.returns-in-Nothing
-returns-in-Nothing c = record { string_at = no-string c.in-Nothing.is c.plain.ensures; s_bound = (omega arith, (omega arith, omega arith)) }
+pub returns-in-None : goal.returns-in-None
+returns-in-None c = record { string_at = no-string c.in-None.is c.plain.ensures; s_bound = (omega arith, (omega arith, omega arith)) }
 
-pub returns-in-Span : goal.returns-in-Span
-returns-in-Span c = let e = c.in-Span.is in let p = c.plain.ensures in record { string_at = a-string e p; s_bound = string-inside (plain-span e p) }
+pub returns-in-Some : goal.returns-in-Some
+returns-in-Some c = let e = c.in-Some.is in let p = c.plain.ensures in record { string_at = a-string e p; s_bound = string-inside (plain-span e p) }

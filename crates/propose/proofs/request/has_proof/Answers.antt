@@ -6,4 +6,4 @@ use Rattle.propose.proofs.request.has_proof.Goals as goal
 pub returns : goal.returns
 returns c =
     let x = c.args in
-    told x.height x.rules.now x.goal.now x.terms.now x.room.now c.prove_goal.new.room c.first_place.result c.first_place.ensures c.prove_goal.result c.prove_goal.auto.room c.prove_goal.ensures
+    told x.height x.files.now x.room.now c.prove_goal.new.room c.first_place.result c.first_place.ensures c.prove_goal.result c.prove_goal.auto.room c.prove_goal.ensures

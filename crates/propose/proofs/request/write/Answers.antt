@@ -7,10 +7,10 @@ pub returns-then-first-gt2048 : goal.returns-then-first-gt2048
 returns-then-first-gt2048 c =
     let x = c.args in
     let m = c.measure-first in
-    drawn-again x.height x.rules.now x.goal.now x.terms.now x.room.now m.new.room _ m.new.scratch x.strip.now m.result m.ensures c.write_long.new.strip c.write_long.result c.write_long.ensures
+    drawn-again x.height x.files.now x.room.now m.new.room _ m.new.scratch x.strip.now m.result m.ensures c.write_long.new.strip c.write_long.result c.write_long.ensures
 
 pub returns : goal.returns
 returns c =
     let x = c.args in
     let m = c.measure-first in
-    c.hand_over.ensures x.height x.rules.now x.goal.now x.terms.now x.room.now m.new.room _ m.auto.scratch m.ensures
+    c.hand_over.ensures x.height x.files.now x.room.now m.new.room _ m.auto.scratch m.ensures

@@ -7,10 +7,10 @@ pub returns-then-first-gt16384 : goal.returns-then-first-gt16384
 returns-then-first-gt16384 c =
     let x = c.args in
     let m = c.measure-first in
-    longer-than-any x.height x.rules.now x.goal.now x.terms.now x.room.now m.new.room _ m.new.scratch x.strip.now m.result m.ensures c.too_long.result c.if-first-gt16384.true c.too_long.ensures
+    longer-than-any x.height x.files.now x.room.now m.new.room _ m.new.scratch x.strip.now m.result m.ensures c.too_long.result c.if-first-gt16384.true c.too_long.ensures
 
 pub returns : goal.returns
 returns c =
     let x = c.args in
     let m = c.measure-first in
-    c.hand_over.ensures x.height x.rules.now x.goal.now x.terms.now x.room.now m.new.room _ m.auto.scratch m.ensures
+    c.hand_over.ensures x.height x.files.now x.room.now m.new.room _ m.auto.scratch m.ensures

@@ -1,5 +1,4 @@
 -- `meet` of src/matching.rt meets its contract. Assumes nothing.
-use borrow.Author.Rules.{rules}
 use borrow.Author.Tests.{not-false}
 use Rattle.proving.proofs.SettleLaws.{meet-none, meet-never, meet-open, meet-same}
 use Rattle.proving.proofs.matching.meet.Goals as goal

@@ -1,7 +1,6 @@
 -- `still` of src/matching.rt meets its contract. Assumes nothing.
 use mathlib.Core.Bool.{◌&&◌}
 use mathlib.Core.Path.{sym, ap}
-use borrow.Author.Rules.{rules}
 use Rattle.unset.specs.declared.Likeness.{Likeness}
 use Rattle.proving.specs.Filling.{is_same}
 use Rattle.proving.proofs.matching.still.Goals as goal

@@ -1,5 +1,4 @@
 -- `body_place` of src/plain.rt meets its contract. Assumes nothing.
-use borrow.Author.Rules.{rules}
 use Rattle.proving.proofs.plain.body_place.Goals as goal
 
 pub returns : goal.returns

@@ -1,6 +1,5 @@
 -- `clause_parts` of src/plain.rt meets its contract. Assumes nothing.
 use Rattle.proving.proofs.PartsLaws.{parts-kept}
-use borrow.Author.Rules.{rules}
 use Rattle.proving.proofs.plain.clause_parts.Goals as goal
 
 pub returns : goal.returns

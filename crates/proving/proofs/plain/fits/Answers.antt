@@ -1,5 +1,4 @@
 -- `fits` of src/plain.rt meets its contract. Assumes nothing.
-use borrow.Author.Rules.{rules}
 use borrow.Author.Tests.{not-true, not-false}
 use Rattle.proving.proofs.SettleLaws.{fits-none, fits_head}
 use Rattle.proving.proofs.plain.fits.Goals as goal

@@ -1,7 +1,8 @@
 -- `is_plain` of src/plain.rt meets its contract. Assumes nothing.
-use borrow.Author.Rules.{rules}
+use mathlib.Core.Path.{sym, subst}
+use Rattle.proving.specs.Parts.{PlainAt}
 use Rattle.proving.proofs.PartsLaws.{plain-told}
 use Rattle.proving.proofs.plain.is_plain.Goals as goal
 
 pub returns : goal.returns
-returns c = plain-told c.parts_from-p.ensures
+returns c = subst (PlainAt c.args.files.now c.args.x) (sym c.is_some.ensures) (plain-told c.parts_from.ensures)

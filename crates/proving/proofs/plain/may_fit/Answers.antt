@@ -1,5 +1,4 @@
 -- `may_fit` of src/plain.rt meets its contract. Assumes nothing.
-use borrow.Author.Rules.{rules}
 use borrow.Author.Tests.{not-false}
 use Rattle.proving.proofs.SettleLaws.{may_none, may-head}
 use Rattle.proving.proofs.plain.may_fit.Goals as goal

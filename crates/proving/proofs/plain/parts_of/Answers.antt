@@ -1,6 +1,5 @@
 -- `parts_of` of src/plain.rt meets its contract. Assumes nothing.
 use Rattle.proving.proofs.PartsLaws.{parts_whole}
-use borrow.Author.Rules.{rules}
 use Rattle.proving.proofs.plain.parts_of.Goals as goal
 
 pub returns : goal.returns

@@ -1,6 +1,5 @@
 -- `word_of` of src/plain.rt meets its contract. Assumes nothing.
 use Rattle.proving.proofs.PlainLaws.{word-here, word-past}
-use borrow.Author.Rules.{rules}
 use Rattle.proving.proofs.plain.word_of.Goals as goal
 
 pub returns-then-v-x : goal.returns-then-v-x

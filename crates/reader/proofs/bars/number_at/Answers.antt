@@ -1,10 +1,7 @@
 -- What the number at an offset says.
-use Rattle.reader.proofs.BarsLaws.{says, says_none}
-use borrow.Author.Rules.{rules}
+use mathlib.Core.Path.{◌∙◌}
+use Rattle.reader.proofs.BarsLaws.{says}
 use Rattle.reader.proofs.bars.number_at.Goals as goal
 
-pub returns-in-Nothing : goal.returns-in-Nothing
-returns-in-Nothing c = says_none c.args.s.now c.args.at 0 c.number.result c.in-Nothing.is c.number.ensures
-
-pub returns-in-Is : goal.returns-in-Is
-returns-in-Is c = says c.args.s.now c.args.at c.in-Is.k c.number.result c.in-Is.is c.number.ensures
+pub returns : goal.returns
+returns c = λ w g t. c.unwrap_or.ensures ∙ says c.args.s.now c.args.at c.number.result c.number.ensures w g t

@@ -1,13 +1,8 @@
 use Prim.Native.Nat.{◌≤◌, ◌-◌}
-use mathlib.Core.Path.{sym, ◌∙◌}
 use lib.ListN.{length}
-use borrow.Author.Tests.{eqb-true, eqb-false, not-true, not-false}
 use Rattle.sexp.specs.Sexp.{Sexps, nestings, StandsAll}
-use Rattle.sexp.proofs.AnswerLaws.{past_next, past-nothing}
 use Rattle.reader.specs.Judged.{count_in}
-use Rattle.reader.proofs.CountLaws.{Counting, counting-start, counting-over, counting-none, counting-next, counting-end, past-further}
-use native.Mathlib.Omega.{arith}
-use borrow.Author.Rules.{rules}
+use Rattle.reader.proofs.CountLaws.{Counting}
 use Rattle.reader.proofs.count.count_from.Given as goal
 
 abbrev pub invariant-loop-at : goal.invariant-loop-at

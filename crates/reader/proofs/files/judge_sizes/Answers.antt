@@ -1,7 +1,6 @@
 -- Refusals 6 and 5 of a file, by whether its members are counted.
 use mathlib.Core.Path.{sym, ◌∙◌}
 use Rattle.reader.proofs.JudgedLaws.{not-counted}
-use borrow.Author.Rules.{rules}
 use Rattle.reader.proofs.files.judge_sizes.Goals as goal
 
 pub returns-then-is_counted : goal.returns-then-is_counted

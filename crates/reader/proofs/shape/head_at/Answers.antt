@@ -4,7 +4,6 @@ use borrow.Author.Tests.{eqb-true, eqb-false}
 use Rattle.sexp.proofs.StandLaws.{byte_inside}
 use Rattle.reader.proofs.ShapeLaws.{head-open}
 use native.Mathlib.Omega.{arith}
-use borrow.Author.Rules.{rules}
 use Rattle.reader.proofs.shape.head_at.Goals as goal
 
 pub list_head-requires : goal.list_head-requires

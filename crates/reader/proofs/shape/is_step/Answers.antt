@@ -1,7 +1,6 @@
 -- Octets that are a step of a path.
 use mathlib.Core.Path.{◌∙◌}
 use Rattle.reader.proofs.TextLaws.{step-l, step-r, step-number}
-use borrow.Author.Rules.{rules}
 use Rattle.reader.proofs.shape.is_step.Goals as goal
 
 pub returns-then-same : goal.returns-then-same

@@ -1,7 +1,6 @@
 -- The head of a list, by how its kind begins.
 use mathlib.Core.Path.{sym, ◌∙◌}
 use Rattle.reader.proofs.ShapeLaws.{list-never, list-plainly, with-word}
-use borrow.Author.Rules.{rules}
 use Rattle.reader.proofs.shape.list_head.Goals as goal
 
 pub returns-in-Never : goal.returns-in-Never

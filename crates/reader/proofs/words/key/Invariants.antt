@@ -1,12 +1,9 @@
-use Prim.Native.Nat.{◌≤◌, ◌<◌, ◌-◌, ◌+◌}
-use lib.ListN.{take, drop, get_or}
-use Rattle.reader.proofs.KeyLaws.{Part, left, top, part-start, part-next, part_end, key_fits}
-use native.Mathlib.Omega.{arith}
-use borrow.Author.Rules.{rules}
+use lib.ListN.{drop}
+use mathlib.Core.Path.{◌≡◌}
+use Prim.Native.Nat.{◌<◌}
+use Rattle.reader.specs.Key.{key_from, key_of}
+use Rattle.reader.proofs.KeyLaws.{top}
 use Rattle.reader.proofs.words.key.Given as goal
 
-abbrev pub invariant-loop-i : goal.invariant-loop-i
-invariant-loop-i l = (l.i ≤ l.count) × ((l.k < top l.i) × Part (take l.count (drop l.from l.s)) (left l.s l.from l.count l.i) l.k)
-
-abbrev pub decreases-loop-i : goal.decreases-loop-i
-decreases-loop-i l = l.count - l.i
+abbrev pub invariant-loop-b : goal.invariant-loop-b
+invariant-loop-b l = record { small : l.k < top l.b-index; key : key_from l.k (drop l.b-index l.w) ≡ key_of l.w }

@@ -1,8 +1,6 @@
 -- `binding_of` of src/frame.rt meets its contract. Assumes nothing.
 use Rattle.room.specs.Frame.{binding_of}
 use borrow.Author.Tests.{eq-eqb, ne_eqb}
-use native.Mathlib.Omega.{arith}
-use borrow.Author.Rules.{rules}
 use Rattle.room.proofs.frame.binding_of.Goals as goal
 
 pub returns-then-w-eq0 : goal.returns-then-w-eq0

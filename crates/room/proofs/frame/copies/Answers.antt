@@ -1,7 +1,6 @@
 -- `copies` of src/frame.rt meets its contract. Assumes nothing.
 use Rattle.room.proofs.FrameLaws.{not-below, not-inside, both-fit}
 use native.Mathlib.Omega.{arith}
-use borrow.Author.Rules.{rules}
 use Rattle.room.proofs.frame.copies.Goals as goal
 
 pub returns-then-top-base : goal.returns-then-top-base

@@ -1,9 +1,7 @@
 -- `push` of src/frame.rt meets its contract. Assumes nothing.
 use lib.ListN.{set}
 use Prim.Native.Nat.{ℕ}
-use mathlib.Core.Path.{sym, ap, ◌∙◌}
-use native.Mathlib.Omega.{arith}
-use borrow.Author.Rules.{rules}
+use mathlib.Core.Path.{ap, ◌∙◌}
 use Rattle.room.proofs.frame.push.Goals as goal
 
 pub returns : goal.returns

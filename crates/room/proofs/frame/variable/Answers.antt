@@ -2,8 +2,6 @@
 use Rattle.room.proofs.FrameLaws.{bound-in, bound-out}
 use Rattle.room.specs.Frame.{binding_of}
 use mathlib.Core.Path.{sym, ap, ◌∙◌}
-use native.Mathlib.Omega.{arith}
-use borrow.Author.Rules.{rules}
 use Rattle.room.proofs.frame.variable.Goals as goal
 
 pub returns-then-i-count : goal.returns-then-i-count

@@ -2,8 +2,6 @@
 use Rattle.room.specs.Frame.{held, binding_word}
 use Rattle.harrop.specs.declared.Binding.{Binding}
 use mathlib.Core.Path.{sym, ap, ◌∙◌}
-use native.Mathlib.Omega.{arith}
-use borrow.Author.Rules.{rules}
 use Rattle.room.proofs.frame.word_of.Goals as goal
 
 pub returns-in-Candidate : goal.returns-in-Candidate

@@ -1,8 +1,6 @@
 -- `put` of src/words.rt meets its contract. Assumes nothing.
 use lib.Seq.{set_out}
 use mathlib.Core.Path.{sym}
-use native.Mathlib.Omega.{arith}
-use borrow.Author.Rules.{rules}
 use Rattle.room.proofs.words.put.Goals as goal
 
 pub returns-else-i-room : goal.returns-else-i-room

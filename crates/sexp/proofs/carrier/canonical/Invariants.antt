@@ -1,11 +1,8 @@
-use mathlib.Core.Path.{◌≡◌, sym, ap, ◌∙◌}
-use Prim.Native.Nat.{ℕ, ◌+◌, ◌-◌, ◌<◌, ◌≤◌}
+use mathlib.Core.Path.{◌≡◌}
+use Prim.Native.Nat.{◌-◌, ◌≤◌}
 use lib.ListN.{length, drop}
-use Rattle.sexp.specs.declared.carrier.Carrier.{Carrier}
-use Rattle.sexp.specs.Scan.{hints_read, State, after, owed, scan, carrier_of}
-use Rattle.sexp.proofs.CarrierLaws.{item, item-owed, item-open, close-none, close-last, close_more, item-end, text-stuck, text-spans, carrier-start}
-use native.Mathlib.Omega.{arith}
-use borrow.Author.Rules.{rules}
+use Rattle.sexp.specs.Scan.{hints_read, scan, carrier_of}
+use Rattle.sexp.proofs.CarrierLaws.{item}
 use Rattle.sexp.proofs.carrier.canonical.Given as goal
 
 abbrev pub invariant-loop-at : goal.invariant-loop-at

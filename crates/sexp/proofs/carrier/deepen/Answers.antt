@@ -1,6 +1,5 @@
 -- `deepen` (src/carrier.rt): each verdict so far, after a list is opened.
 use Rattle.sexp.proofs.CarrierLaws.{deeper-here, deeper-not, deeper-fault, deeper-deep}
-use borrow.Author.Rules.{rules}
 use Rattle.sexp.proofs.carrier.deepen.Goals as goal
 
 pub returns-then-lists-limit : goal.returns-then-lists-limit

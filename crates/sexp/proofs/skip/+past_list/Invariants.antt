@@ -1,11 +1,6 @@
 use Prim.Native.Nat.{◌-◌}
 use lib.ListN.{length}
-use Rattle.sexp.proofs.AnswerLaws.{past_next, past-nothing}
-use Rattle.sexp.proofs.SkipLaws.{Going, past-deep, going_start, going_on, going-string, pair-past, ends-further, string-further, past-whole, past_stop, past-cut}
-use Rattle.sexp.proofs.StandLaws.{byte_inside}
-use native.Mathlib.Omega.{arith}
-use borrow.Author.Rules.{rules}
-use Prim.Native.Nat.{ℕ, ◌<◌}
+use Rattle.sexp.proofs.SkipLaws.{Going}
 use Rattle.sexp.proofs.skip.+past_list.Given as goal
 
 abbrev pub decreases-past_list : goal.decreases-past_list

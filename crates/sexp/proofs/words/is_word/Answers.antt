@@ -1,7 +1,6 @@
 -- `is_word` meets its contract: a word of fewer than ten octets has the bytes that ShortLaws say, and any other is what `is_word_long` finds.
 use Rattle.sexp.proofs.ShortLaws.{short-bytes, short-told}
 use native.Mathlib.Omega.{arith}
-use borrow.Author.Rules.{rules}
 use Rattle.sexp.proofs.words.is_word.Goals as goal
 
 pub returns-then-s-at : goal.returns-then-s-at

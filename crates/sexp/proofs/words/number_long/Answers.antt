@@ -1,18 +1,16 @@
 -- `number_long` meets its contract: the octets of the plain string there are a number.
-use Rattle.sexp.proofs.AnswerLaws.{plain-span, plain-nothing, plain-inside}
+use mathlib.Core.Path.{sym, subst}
+use Rattle.sexp.specs.WordsAt.{NumberAt}
+use Rattle.sexp.proofs.AnswerLaws.{plain-inside}
 use Rattle.sexp.proofs.WordsAtLaws.{number-told}
 use native.Mathlib.Omega.{arith}
-use borrow.Author.Rules.{rules}
 use Rattle.sexp.proofs.words.number_long.Goals as goal
 
-pub overflow_add-to : goal.overflow_add-to
-overflow_add-to c = let k = plain-inside (plain-span c.in-Span.is c.plain.ensures) in omega arith
+pub returns-in_err-from : goal.returns-in_err-from
+returns-in_err-from c = subst (NumberAt c.args.s.now c.args.at) (sym c.from_residual.ensures) (λ w h e. c.in_err-from.ensures w h)
 
 pub slice_bounds-number_of-end : goal.slice_bounds-number_of-end
-slice_bounds-number_of-end c = let k = plain-inside (plain-span c.in-Span.is c.plain.ensures) in omega arith
+slice_bounds-number_of-end c = let k = plain-inside c.in_ok-from.ensures in omega arith
 
-pub returns-in-Nothing : goal.returns-in-Nothing
-returns-in-Nothing c = λ w h e. plain-nothing c.in-Nothing.is c.plain.ensures w h
-
-pub returns-in-Span : goal.returns-in-Span
-returns-in-Span c = number-told c.args.s.now c.args.at c.in-Span.from c.in-Span.count (plain-span c.in-Span.is c.plain.ensures) c.number_of.result c.number_of.ensures
+pub returns : goal.returns
+returns c = number-told c.args.s.now c.args.at c.in_ok-from.from c.in_ok-from.count c.in_ok-from.ensures c.number_of.result c.number_of.ensures

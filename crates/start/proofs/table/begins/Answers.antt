@@ -10,13 +10,13 @@ returns-then-is_word c = let x = c.args in
 
 pub overflow_add-result : goal.overflow_add-result
 overflow_add-result c = let x = c.args in
-    let h = begins-inside x.s.now x.at c.from-t.ensures c.in-Next.is c.past.ensures in
+    let h = begins-inside x.s.now x.at c.from-t.ensures c.in-Some.is c.past.ensures in
     search rules
 
-pub returns-in-Nothing : goal.returns-in-Nothing
-returns-in-Nothing c = let x = c.args in
-    begins-lost x.s.now x.at c.from-t.ensures {r = c.is_word.result} c.is_word.ensures c.if-is_word.false c.in-Nothing.is c.past.ensures
+pub returns-in-None : goal.returns-in-None
+returns-in-None c = let x = c.args in
+    begins-lost x.s.now x.at c.from-t.ensures {r = c.is_word.result} c.is_word.ensures c.if-is_word.false c.in-None.is c.past.ensures
 
-pub returns-in-Next : goal.returns-in-Next
-returns-in-Next c = let x = c.args in
-    begins-terms x.s.now x.at c.from-t.ensures {r = c.is_word.result} c.is_word.ensures c.if-is_word.false c.in-Next.is c.past.ensures
+pub returns-in-Some : goal.returns-in-Some
+returns-in-Some c = let x = c.args in
+    begins-terms x.s.now x.at c.from-t.ensures {r = c.is_word.result} c.is_word.ensures c.if-is_word.false c.in-Some.is c.past.ensures

@@ -8,15 +8,15 @@ use borrow.Author.Rules.{rules}
 use Rattle.start.proofs.table.highests.Goals as goal
 
 pub loop-i-init : goal.loop-i-init
-loop-i-init c = let x = c.args in (omega arith, high-none x.room.now x.terms.now)
+loop-i-init c = let x = c.args in high-none x.room.now x.terms.now
 
 pub loop-i-preserved : goal.loop-i-preserved
 loop-i-preserved c = let x = c.args in
     let l = c.loop-i in
-    (omega arith, high-more x.room.now x.terms.now c.hold.result c.highest.result c.word_after-at.result l.invariant.1 (omega arith) c.word_after-at.ensures c.highest.ensures c.hold.ensures c.put.ensures)
+    high-more x.room.now x.terms.now c.hold.result c.highest.result c.word_after-at.result l.invariant (omega arith) c.word_after-at.ensures c.highest.ensures c.hold.ensures c.put.ensures
 
 pub returns : goal.returns
 returns c = let x = c.args in
     let l = c.loop-i in
     let e : l.i ≡ x.count = omega arith in
-    subst (HighestIn x.room.now l.room x.terms.now) e l.invariant.1
+    subst (HighestIn x.room.now l.room x.terms.now) e l.invariant

@@ -7,7 +7,4 @@ use borrow.Author.Rules.{rules}
 use Rattle.start.proofs.table.highests.Given as goal
 
 abbrev pub invariant-loop-i : goal.invariant-loop-i
-invariant-loop-i l = (l.i ≤ l.count) × HighestIn l.initial.room l.room l.terms l.i
-
-abbrev pub decreases-loop-i : goal.decreases-loop-i
-decreases-loop-i l = l.count - l.i
+invariant-loop-i l = HighestIn l.initial.room l.room l.terms l.i

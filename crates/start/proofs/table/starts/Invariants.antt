@@ -6,6 +6,3 @@ use Rattle.start.proofs.table.starts.Given as goal
 
 abbrev pub invariant-loop-k : goal.invariant-loop-k
 invariant-loop-k l = Filling l.initial.room l.room l.s l.at l.base l.k l.p
-
-abbrev pub decreases-loop-k : goal.decreases-loop-k
-decreases-loop-k l = 256 - l.k

@@ -22,7 +22,7 @@ loop-room-smaller c = let l = c.loop-room in let b = inside-bounds c.inside.resu
 pub loop-room-preserved : goal.loop-room-preserved
 loop-room-preserved c = let x = c.args in let l = c.loop-room in let b = inside-bounds c.inside.result (length l.room) l.at c.inside.ensures c.loop-room-test.true in
     let t = l.invariant.1.0 in
-    (omega arith, (omega arith, subst (λ (r : List ℕ). Bare x.room.now r (l.at + 16)) (sym c.put.ensures) (cleared-next (λ (mark : ℕ). mark ≡ 0) x.room.now l.room l.at (record { first = b.0; step = t; inside = b.1 }) refl l.invariant.1.1)))
+    (omega arith, (omega arith, subst (λ (r : List ℕ). Bare x.room.now r (l.at + 16)) (sym c.put_after.ensures) (cleared-next (λ (mark : ℕ). mark ≡ 0) x.room.now l.room l.at (record { first = b.0; step = t; inside = b.1 }) refl l.invariant.1.1)))
 
 pub shape_of-room : goal.shape_of-room
 shape_of-room c = c.loop-room.invariant.1.1.long

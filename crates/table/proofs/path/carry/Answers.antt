@@ -9,8 +9,8 @@ use Rattle.table.proofs.path.carry.Goals as goal
 
 pub loop-k-preserved : goal.loop-k-preserved
 loop-k-preserved c = let x = c.args in let l = c.loop-k in
-    (omega arith, carried-next x.from l.k x.to l.invariant.1 c.word-w.ensures c.put.ensures)
+    carried-next x.from l.k x.to l.invariant c.word_after-w.ensures c.put_after.ensures
 
 pub returns : goal.returns
 returns c = let x = c.args in let l = c.loop-k in
-    subst (λ (m : ℕ). Carried x.room.now l.room x.from m x.to) {x = l.k} {y = x.n} (omega arith) l.invariant.1
+    subst (λ (m : ℕ). Carried x.room.now l.room x.from m x.to) {x = l.k} {y = x.n} (omega arith) l.invariant

@@ -7,7 +7,4 @@ use borrow.Author.Rules.{rules}
 use Rattle.table.proofs.path.carry.Given as goal
 
 abbrev pub invariant-loop-k : goal.invariant-loop-k
-invariant-loop-k l = (l.k ≤ l.n) × Carried l.initial.room l.room l.from l.k l.to
-
-abbrev pub decreases-loop-k : goal.decreases-loop-k
-decreases-loop-k l = l.n - l.k
+invariant-loop-k l = Carried l.initial.room l.room l.from l.k l.to

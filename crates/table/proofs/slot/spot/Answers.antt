@@ -7,4 +7,4 @@ use borrow.Author.Rules.{rules}
 use Rattle.table.proofs.slot.spot.Goals as goal
 
 pub returns : goal.returns
-returns c = λ h. spot-alike (c.source_of-source.ensures ∙ ap source_of c.word.ensures) c.word-2.ensures (c.plus.ensures ∙ omega arith) c.word-3.ensures
+returns c = λ h. spot-alike (c.from.ensures ∙ ap source_of c.word_after.ensures) c.word_after-2.ensures (c.plus.ensures ∙ omega arith) c.word_after-3.ensures

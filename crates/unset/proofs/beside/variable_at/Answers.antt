@@ -1,7 +1,6 @@
 -- `variable_at` of src/beside.rt meets its contract. Assumes nothing.
 use borrow.Author.Tests.{not-false}
 use Rattle.unset.proofs.HeadLaws.{variable-is}
-use borrow.Author.Rules.{rules}
 use Rattle.unset.proofs.beside.variable_at.Goals as goal
 
 pub returns-then-not-is_word : goal.returns-then-not-is_word

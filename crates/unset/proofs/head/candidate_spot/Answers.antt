@@ -1,8 +1,6 @@
 -- `candidate_spot` of src/head.rt meets its contract. Assumes nothing.
 use Rattle.unset.proofs.CandidateLaws.{terms_spot}
 use mathlib.Core.Path.{ap}
-use native.Mathlib.Omega.{arith}
-use borrow.Author.Rules.{rules}
 use Rattle.unset.proofs.head.candidate_spot.Goals as goal
 
 pub returns : goal.returns

@@ -13,15 +13,15 @@ pub returns-then-strip-at : goal.returns-then-strip-at
 returns-then-strip-at c = let x = c.args in
     record { inside = tt; asks = λ k steps more h. absurd (omega (arith, stands-before h, c.if-strip-at.true)) }
 
-pub returns-in_default : goal.returns-in_default
-returns-in_default c = let x = c.args in
-    record { inside = tt; asks = λ k steps more h. far-number (use-number x.strip.now x.at k steps more h) (number-nothing c.in_default.is c.number.ensures) }
+pub returns-in_err-clause-clause-asks : goal.returns-in_err-clause-clause-asks
+returns-in_err-clause-clause-asks c = let x = c.args in
+    rw c.from_residual.ensures (λ k steps more h. far-number (use-number x.strip.now x.at k steps more h) (number-nothing c.in_err-clause.was c.number.ensures))
 
-pub returns-in_default-past : goal.returns-in_default-past
-returns-in_default-past c = let x = c.args in
-    record { inside = tt; asks = λ k steps more h. absurd (past-nothing c.in_default-past.is c.past.ensures (number k) (use-number x.strip.now x.at k steps more h) (omega arith)) }
+pub returns-in_err-path-clause-asks : goal.returns-in_err-path-clause-asks
+returns-in_err-path-clause-asks c = let x = c.args in
+    rw c.from_residual-in_err-path.ensures (λ k steps more h. absurd (past-nothing c.in_err-path.was c.past.ensures (number k) (use-number x.strip.now x.at k steps more h) (omega arith)))
 
 pub returns : goal.returns
 returns c = let x = c.args in
-    let e = past_next c.in-Next.is c.past.ensures in
-    record { inside = ends-inside e; asks = λ k steps more h. (number-agrees (number_is c.in-Is.is c.number.ensures) (use-number x.strip.now x.at k steps more h), ends_is (use-number x.strip.now x.at k steps more h) e) }
+    let e = past_next c.in_ok-path.was c.past.ensures in
+    record { inside = ends-inside e; asks = λ k steps more h. (number-agrees (number_is c.in_ok-clause.was c.number.ensures) (use-number x.strip.now x.at k steps more h), ends_is (use-number x.strip.now x.at k steps more h) e) }

@@ -13,10 +13,10 @@ pub returns-then-not-is_word : goal.returns-then-not-is_word
 returns-then-not-is_word c = let x = c.args in
     record { small = tt; turned = λ p d s path k l h e. and-neither x.clause.now x.strip.now x.at x.next p d path s h (told-no c.if-is_word.false c.is_word.ensures) (told-no (not-true c.is_word-2.result c.if-not-is_word.true-raw) c.is_word-2.ensures) }
 
-pub returns-in-Nothing : goal.returns-in-Nothing
-returns-in-Nothing c = let x = c.args in
-    record { small = tt; turned = λ p d s path k l h e. absurd (and-found x.clause.now x.strip.now x.at x.next p d path k l (past-nothing c.in-Nothing.is c.past.ensures)) }
+pub returns-in_err-i-clause-turned : goal.returns-in_err-i-clause-turned
+returns-in_err-i-clause-turned c = let x = c.args in
+    rw c.from_residual.ensures (λ p d s path k l h e. absurd (and-found x.clause.now x.strip.now x.at x.next p d path k l (past-nothing c.in_err-i.was c.past.ensures)))
 
-pub returns-in-Next : goal.returns-in-Next
-returns-in-Next c = let x = c.args in
-    record { small = tt; turned = λ p d s path k l h e. and_right x.clause.now x.strip.now x.at x.next p d path s c.in-Next.i k h e (told-yes (not-false c.is_word-2.result c.if-not-is_word.false-raw) c.is_word-2.ensures) (past_next c.in-Next.is c.past.ensures) }
+pub returns : goal.returns
+returns c = let x = c.args in
+    record { small = tt; turned = λ p d s path k l h e. and_right x.clause.now x.strip.now x.at x.next p d path s c.in_ok-i.i k h e (told-yes (not-false c.is_word-2.result c.if-not-is_word.false-raw) c.is_word-2.ensures) (past_next c.in_ok-i.was c.past.ensures) }

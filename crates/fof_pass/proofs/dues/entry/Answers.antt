@@ -1,8 +1,0 @@
--- `entry` of src/dues.rt meets its contract. Assumes nothing.
-use mathlib.Core.Path.{sym}
-use lib.ListN.{get_or-eq_default}
-use borrow.Author.Rules.{rules}
-use Rattle.fof_pass.proofs.dues.entry.Goals as goal
-
-pub returns-else-i-s : goal.returns-else-i-s
-returns-else-i-s c = sym (get_or-eq_default c.args.s.now 0 c.if-i-s.false)

@@ -1,8 +1,0 @@
--- `put` of src/table.rt meets its contract. Assumes nothing.
-use lib.Seq.{set_out}
-use mathlib.Core.Path.{sym}
-use borrow.Author.Rules.{rules}
-use Rattle.keys.proofs.table.put.Goals as goal
-
-pub returns-else-i-room : goal.returns-else-i-room
-returns-else-i-room c = sym (set_out c.args.room.now c.args.i c.args.w c.if-i-room.false)

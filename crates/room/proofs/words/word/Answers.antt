@@ -1,9 +1,0 @@
--- `word` of src/words.rt meets its contract. Assumes nothing.
-use lib.ListN.{get_or-eq_default}
-use mathlib.Core.Path.{sym}
-use native.Mathlib.Omega.{arith}
-use borrow.Author.Rules.{rules}
-use Rattle.room.proofs.words.word.Goals as goal
-
-pub returns-else-i-room : goal.returns-else-i-room
-returns-else-i-room c = sym (get_or-eq_default c.args.room.now 0 c.if-i-room.false)
