@@ -1,5 +1,5 @@
 // The arguments of the atom at a spot in one word: ten bits for each, the first lowest.
-// Kept: files, room and spot stay parameters of their own; the spots are others at each call, and a struct of them would be made anew there.
+// Kept: files, room and spot stay parameters of their own; a struct of them would be made for these three functions alone.
 ghost use Rattle.arguments.specs.Arguments.{NumberAt, ArgumentsFrom, ArgumentsAt};
 
 use held::holds;

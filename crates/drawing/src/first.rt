@@ -1,6 +1,6 @@
 // The first option that has a proof, by number: a candidate for a `some`, a clause for an atom, a candidate on the way into a clause (document 01, "Which strip the search writes").
 // Each is asked of crate provable in order, and none after the first that does; where a search has left the numbers of a path in the room they are read there, and a clause that the table has kept for an atom is not asked for again.
-// Kept: files, room and place stay parameters of their own. The room is written and comes back as another, the place is another at each call, and a struct of them would be made anew there.
+// Kept: files, room and place stay parameters of their own, as the search has them. A struct of them would be made for these calls alone, and its clauses would name the room before and after all the same.
 ghost use Rattle.std.specs.Prelude.{◌≡◌, MatchOption, ⊤};
 ghost use Rattle.proving.specs.First.{number_of};
 ghost use Rattle.proving.specs.Filling.{LocatingAt};

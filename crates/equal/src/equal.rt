@@ -143,6 +143,7 @@ fn same(files: &Files, room: &[u32], x: Spot, y: Spot, nest: usize) -> bool
 }
 
 // The same of terms one after the other, up to the closing parenthesis.
+// Kept: the place goes on by what each member takes, so no index counts.
 #[cycle(same)]
 fn same_rest(files: &Files, room: &[u32], x: Spot, y: Spot, nest: usize) -> bool
     ensures { SameRest files.now room.now x y nest result }

@@ -1,5 +1,5 @@
 // Whether two atoms have the same predicate, by their bytes, and whether a clause has a head with an atom's predicate; any head under an `and` counts (document 02, Three).
-// Kept: files, room and spot stay parameters of their own; the spots are others at each call, and a struct of them would be made anew there.
+// Kept: the files and two spots stay parameters of their own; the spots are others at each call, and a struct of them would be made anew there.
 ghost use Rattle.std.specs.Prelude.{ℕ};
 ghost use Rattle.packet.specs.declared.Word.TheVariants as W;
 ghost use Rattle.heads.specs.Predicate.{SameNumber, SamePredicate, SameThere, HasHead, HasHeadAs};

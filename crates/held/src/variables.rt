@@ -137,6 +137,7 @@ fn meets_member(
 }
 
 // One walk through the expression at an offset, up to the first variable of the frame that is unset, or is variable v if that one is asked for.
+// Kept: the place goes on by what each member takes, so no index counts.
 #[cycle(meets)]
 pub fn meets(
     s: &[u8],

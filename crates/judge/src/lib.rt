@@ -10,7 +10,7 @@ use request::judge_files;
 use start::clear;
 
 // What comes back. The place of a refusal is 0 but for number 7.
-// Kept: a refusal is a verdict as well as an acceptance is, and the theorems on `verdict_of` that README names say these two words.
+// Kept: a refusal is a verdict as well as an acceptance is, and the theorems on `verdict_of` that docs/DEMANDS.md names say these two words.
 #[derive(Clone, Copy)]
 pub enum Verdict {
     Accepted {

@@ -48,6 +48,7 @@ fn cases(out: &impl Print, file: &[u8]) {
     }
 }
 
+// Kept: each of these programs reads a file of its own.
 fn main(rt: HostRuntime) -> io::Result<()> {
     let mut buf: [u8; 393216] = filled(0);
     let names: [&[u8]; 4] = [b"cases1", b"cases2", b"cases3", b"cases4"];

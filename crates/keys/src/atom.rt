@@ -1,5 +1,5 @@
 // The number of an atom under its bindings, and the number of its predicate: of its name and how many arguments it has. Where both are asked for, the atom is walked once.
-// Kept: the bytes, the offset and what is left of the nesting stay parameters of their own; offset and nesting are others at each call.
+// Kept: the bytes and the offset, the room and the spot stay parameters of their own; the offset is another at each call.
 ghost use Rattle.keys.specs.Walk.{RowAt, TermsAtKey, PredicateAt, AtomAtKey};
 ghost use Rattle.keys.specs.Keys.{AtomKeyAt, PredicateKeyAt};
 
@@ -60,6 +60,7 @@ pub fn predicate_key(files: &Files, x: Spot) -> u32
 }
 
 // Both numbers of a row of arguments, from a number on.
+// Kept: the place goes on by what each member takes, so no index counts.
 fn both_at(s: &[u8], at: usize, room: &[u32], x: Spot, h: u32) -> Both
     ensures { RowAt s.now at h result.predicate × TermsAtKey s.now at room.now x h 64 result.key }
 {

@@ -35,6 +35,7 @@ fn has_number(room: &[u32], numbers: u32, x: u32, from: u32, r: u32) -> bool
 }
 
 // The first from one on, of n, that has a number; n if there is none. Where the chains are right each is before the next one.
+// Kept: the next one is what a chain of the room says, not the next number.
 fn next_with(room: &[u32], numbers: u32, links: u32, x: u32, from: u32, n: u32) -> u32
     ensures { NextWith numbers links room.now x from n result }
 {

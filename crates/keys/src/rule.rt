@@ -30,6 +30,7 @@ fn has_variable(s: &[u8], at: usize, nest: usize) -> bool
 }
 
 // The same of terms one after the other, up to the closing parenthesis.
+// Kept: the place goes on by what each member takes, so no index counts.
 #[cycle(variable)]
 fn have_variable(s: &[u8], at: usize, nest: usize) -> bool
     ensures { HaveVariable s.now at nest result }

@@ -89,6 +89,7 @@ pub(crate) fn key_at(s: &[u8], at: usize, room: &[u32], x: Spot, nest: usize) ->
 }
 
 // A number with those of terms mixed into it, one after the other, up to the closing parenthesis.
+// Kept: the place goes on by what each member takes, so no index counts.
 #[cycle(key)]
 pub(crate) fn keys_at(s: &[u8], at: usize, room: &[u32], x: Spot, h: u32, nest: usize) -> u32
     ensures { TermsAtKey s.now at room.now x h nest result }

@@ -1,5 +1,5 @@
 // The variables of a clause that stand in its head beside arguments of an atom that are set (document 02, Three: no verdict and no strip changes). They get the candidates that those are, by the word of the atom's arguments (crate arguments), before the clause's body narrows another variable.
-// Kept: files, room and place stay parameters of their own. The room is written and comes back as another, the place is another at each call, and a struct of them would be made anew there.
+// Kept: files, room and the parts of a clause stay parameters of their own. The room is written and comes back as another, and every clause would name it before and after all the same.
 ghost use Rattle.narrowing.specs.Sets.{SetsOne, SetsFrom, SetsBeside};
 
 use harrop::Binding;

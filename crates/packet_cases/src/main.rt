@@ -54,6 +54,7 @@ fn cases(out: &impl Print, file: &[u8]) {
     }
 }
 
+// Kept: each of these programs reads a file of its own.
 fn main(rt: HostRuntime) -> io::Result<()> {
     let mut room: [u8; 655360] = filled(0);
     let names: [&[u8]; 2] = [b"cases1", b"cases2"];

@@ -4,7 +4,7 @@
 use packet::{File, Reason};
 
 // What a search answers: the height, nodes and length in bytes of the strip written, or why there is none, with the file and a place.
-// Kept: the theorems on `proposal_of` that README names say these two words.
+// Kept: the theorems on `proposal_of` that docs/DEMANDS.md names say these two words.
 #[derive(Clone, Copy)]
 pub enum Proposal {
     Found {

@@ -1,6 +1,6 @@
 // A search in three parts, once the room is set out: whether there is a strip, the strip drawn with its measures, and its bytes copied. The buffer is touched by the last of them alone,
 // when the whole answer is known (document 01, "Which strip the search writes", "What comes back").
-// Kept: files, room and place stay parameters of their own. The room is written and comes back as another, the place is another at each call, and a struct of them would be made anew there.
+// Kept: files, height, strip and room stay parameters of their own. Strip and room are lent to be written, and a struct of them would be made anew at each call.
 ghost use Rattle.std.specs.Prelude.{◌≡◌, min, ◌≤◌, length};
 ghost use Rattle.packet.specs.File.{most_bytes};
 ghost use Rattle.packet.specs.declared.File.TheVariants as F;

@@ -145,6 +145,7 @@ fn decide(files: &Files, room: &mut [u32], w: Where, of: Both, at: usize, left: 
 }
 
 // The first clause at hand that serves an atom, if one does. Rules whose number says that they cannot are passed over. If no `and` is on the way to its head, the numbers of the first path through it are left behind its frame.
+// Kept: the next clause is what the chains of the room say, not the next number.
 #[cycle(proves)]
 pub fn find_clause(
     files: &Files,

@@ -1,6 +1,6 @@
 // The head of a clause with no `and` on the way to it beside the atom that is searched, argument by argument, in one walk: a variable of the clause that is an argument and not set yet is set to what the atom has there, any other argument without an unset variable is compared.
 // An argument that is a compound term with an unset variable decides nothing (document 02, Three: the head decides before candidates are tried). Where there is none, the head is the atom whatever the variables that are left become, and is not compared again.
-// Kept: files, room and place stay parameters of their own. The room is written and comes back as another, the place is another at each call, and a struct of them would be made anew there.
+// Kept: files, room and place stay parameters of their own, as the search has them. A struct of them would be made for these calls alone, and its clauses would name the room before and after all the same.
 ghost use Rattle.std.specs.Prelude.{◌≡◌, ◌&&◌};
 ghost use Rattle.proving.specs.Filling.{is_never, is_same, Settling, Meeting};
 ghost use Rattle.proving.specs.Matching.{at_end, Matching, MatchingVariable};

@@ -1,5 +1,4 @@
 // How many clauses are at hand, by the room's tables, and the frame that one of them is taken apart in (document 01, "When a strip fits": clause k is at hand).
-// Kept: the room comes with the word that a frame or a table begins or ends at, since the room is one memory that the caller lends, and which parts it has is the definition's (specs/Layout of crate `room`).
 ghost use Rattle.std.specs.Prelude.{◌≡◌, get_or};
 ghost use Rattle.room.specs.Layout.{rules_word, candidates_word};
 ghost use Rattle.room.specs.Where as places;
@@ -50,6 +49,7 @@ pub fn rule_number(room: &[u32], k: usize) -> usize
 }
 
 // Clause k with a new frame on top of the stack, which holds its bindings.
+// Kept: the room comes with the word that the new frame begins at, since the room is one memory that the caller lends.
 pub fn open_clause(room: &mut [u32], k: usize, supposes: usize, top: usize) -> Option<Spot>
     ensures { Opened room.old room.new k supposes top result }
 {

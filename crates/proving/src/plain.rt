@@ -1,6 +1,6 @@
 // A clause with no `and` on the way to its one head, searched for an atom: its own variables are unset at first, those that the atom forces are set, and the others get one candidate after the other.
 // A goal of the body is looked at as soon as its variables are set, and only then (document 02, Three: no verdict and no strip changes). How the atom forces variables is in src/matching.
-// Kept: files, room and place stay parameters of their own. The room is written and comes back as another, the place is another at each call, and a struct of them would be made anew there.
+// Kept: files, room and place stay parameters of their own, as the search has them. A struct of them would be made for these calls alone, and its clauses would name the room before and after all the same.
 ghost use Rattle.std.specs.Prelude.{false, ◌≡◌};
 ghost use Rattle.proving.specs.Parts.{HeadBehind, PartsFrom, PartsOf, ClauseParts, PlainAt, variable_word, body_place, with_head};
 ghost use Rattle.proving.specs.Chain.{inside_at, ChainOf};

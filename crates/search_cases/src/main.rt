@@ -117,6 +117,7 @@ fn case<'a>(out: &impl Print, file: &'a [u8], room: &mut [u32]) -> &'a [u8]
 }
 
 // Searches for all cases of a file in one room.
+// Kept: each turn takes a whole case off the front of the file.
 fn cases(out: &impl Print, file: &[u8], room: &mut [u32]) {
     let mut rest = file;
     while !rest.is_empty() {

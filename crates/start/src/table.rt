@@ -67,6 +67,7 @@ fn highest(s: &[u8], at: usize, nest: usize) -> usize
 }
 
 // The highest of terms one after the other, up to the closing parenthesis.
+// Kept: the place goes on by what each member takes, so no index counts.
 #[cycle(highest)]
 fn highest_of(s: &[u8], at: usize, nest: usize) -> usize
     ensures { HighestsAt s.now at nest result }

@@ -1,5 +1,5 @@
 // What the table says of the atom at a place: nothing, unless a slot has that very atom, under as many supposed clauses and parameters.
-// Kept: files, room and place stay parameters of their own. The room is written and comes back as another, the place is another at each call, and a struct of them would be made anew there.
+// Kept: files, room and place stay parameters of their own, as the search has them; a struct of them would be made for these calls alone.
 ghost use Rattle.table.specs.Recall.{IsThis, Recalls, Chose};
 
 use crate::slot::{inside, spot};

@@ -1,5 +1,5 @@
 // Two atoms beside each other, where variables of both are not set: which variable of the second stands where one of the first does (document 02, Three).
-// Kept: files, room and spot stay parameters of their own; the spots are others at each call, and a struct of them would be made anew there.
+// Kept: the files and two spots stay parameters of their own; the spots are others at each call, and a struct of them would be made anew there.
 ghost use Rattle.unset.specs.Beside.{VariableIs, BesideAt, SameAs};
 
 use crate::head::is_variable;

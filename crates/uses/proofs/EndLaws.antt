@@ -23,7 +23,7 @@ use Rattle.packet.specs.Written.{one, two, number, each, atom_sexp, goal_sexp, c
 use Rattle.packet.specs.Barred.{atom_ok, goal_ok, clause_ok}
 use Rattle.packet.specs.Offset.{width}
 use Rattle.room.specs.Layout.{levels}
-use Rattle.room.specs.Spot.{bindings_at}
+use Rattle.room.specs.Spot.{bindings_at, moved_to}
 use Rattle.room.specs.Files.{Files, file_of}
 use Rattle.equal.specs.Term.{AtomAt, SameAtoms}
 use Rattle.room.specs.declared.Spot.{Spot}
@@ -31,7 +31,7 @@ use Rattle.room.specs.declared.Where.{Where}
 use Rattle.room.proofs.FrameLaws.{frame-length}
 use Rattle.room.proofs.MoveLaws.{hand-higher}
 use Rattle.uses.specs.Walk.{Means, Told}
-use Rattle.uses.specs.Use.{use_of, concluded, matched, Heads, Headed, moved_to, AtEnd}
+use Rattle.uses.specs.Use.{use_of, concluded, matched, Heads, Headed, AtEnd}
 use Rattle.uses.specs.declared.Entered.TheVariants as E
 use Rattle.uses.specs.declared.uses.Head.{Head}
 use Rattle.uses.specs.declared.uses.Head.TheVariants as H

@@ -17,7 +17,7 @@ use Rattle.packet.specs.Offset.{width}
 use Rattle.hand.specs.Hand.{clause_in, reframed}
 use Rattle.room.specs.Layout.{levels, candidates_word, candidates_at_most, highest_word, supposed_at_most, stack}
 use Rattle.room.specs.Frame.{binding_word, held, bindings_in, copied}
-use Rattle.room.specs.Spot.{bindings_at}
+use Rattle.room.specs.Spot.{bindings_at, moved_to}
 use Rattle.room.specs.Files.{Files, file_of}
 use Rattle.room.specs.declared.Spot.{Spot}
 use Rattle.room.specs.declared.Where.{Where}
@@ -156,9 +156,6 @@ pub record ClauseAt (f : Files) (room : List ℕ) (x : Spot) (top : ℕ) (d : Cl
   pub scoped : clause_ok x.count d ≡ true
 
 -- the atom of a fact or of an implication, and the goal of that, where a path ended
-abbrev pub moved_to : Spot → ℕ → Spot
-moved_to x at = record { source = x.source; at = at; base = x.base; count = x.count }
-
 abbrev pub Heads : List ℕ → Spot → Clause Plain → code.Option Head → Type 0
 Heads s x e None = (us : List Term) (o : List Plain) (bs : Bindings) → follow (listed us) o e bs [] ≡ none
 Heads s x e (Some (H.Fact a)) = (b : Atom) × (e ≡ Clause.atom_d b) × (a ≡ x)

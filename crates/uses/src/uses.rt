@@ -1,11 +1,11 @@
 // The node `use` k path (document 01, "When a strip fits"): clause k is at hand, the path takes it apart from outside and ends exactly at an atom or at G implies atom,
 // and that atom, variables replaced, equals the goal's. The remaining clause bytes are handed on as a part that starts in the middle of its file.
-// Kept: files, room and place stay parameters of their own. The room is written and comes back as another, the place is another at each call, and a struct of them would be made anew there.
+// Kept: files, strip, room and place stay parameters of their own, as the walk has them. A struct of them would be made for these calls alone, and its clauses would name the room before and after all the same.
 ghost use Rattle.std.specs.Prelude.{◌≡◌, ◌+◌, ◌≤◌, length, get_or, take};
 ghost use Rattle.packet.specs.declared.Word.TheVariants as W;
 ghost use Rattle.room.specs.Files.{file_of};
 ghost use Rattle.uses.specs.Walk.{EnteringAs};
-ghost use Rattle.uses.specs.Use.{AtAnd, AtAll, Turned, Small, Binds, Followed, Opened, Headed, Concluding, Uses, AsksAt, Inside, moved_to};
+ghost use Rattle.uses.specs.Use.{AtAnd, AtAll, Turned, Small, Binds, Followed, Opened, Headed, Concluding, Uses, AsksAt, Inside};
 
 use crate::Entered;
 use equal::same_atoms;
@@ -178,14 +178,7 @@ fn head_of(files: &Files, x: Spot) -> Option<Head>
         return None;
     }
     let n = past(s, 6, 64)?;
-    Some(Head::Implies(moved(x, x.at + 6), moved(x, x.at + n)))
-}
-
-// A spot of the same clause at another offset.
-fn moved(x: Spot, at: usize) -> Spot
-    ensures { result ≡ moved_to x at }
-{
-    Spot { at, ..x }
+    Some(Head::Implies(x.moved(x.at + 6), x.moved(x.at + n)))
 }
 
 // What the node says whose path ended at a clause, with a frame that ends at `end`.
