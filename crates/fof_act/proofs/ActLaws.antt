@@ -178,7 +178,7 @@ held-length (d ∷ ds) st top (n, e, m, f, h) = e ∙ ap suc (held-length ds st 
 shorter : {A : Type 0} (xs ys : List A) {n : ℕ} → length (xs ++ ys) < n → length ys < n
 shorter xs ys l = omega (arith, length-append xs ys)
 
-push-on : (d : Due) {st st' : Stack} {n n' : ℕ} (ds : List part.Due) → Pushes d st st' n n' → Held st n ds → length (meant d ++ ds) < 98400 → 98400 ≤ length st → Few d → Held st' n' (meant d ++ ds)
+push-on : (d : Due ℕ) {st st' : Stack} {n n' : ℕ} (ds : List part.Due) → Pushes d st st' n n' → Held st n ds → length (meant d ++ ds) < 98400 → 98400 ≤ length st → Few d → Held st' n' (meant d ++ ds)
 push-on d {st} {st'} {n} {n'} ds p h l m f =
     let z = held-length ds st n h in
     let y = shorter (meant d) ds l in

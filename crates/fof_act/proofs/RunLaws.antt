@@ -121,14 +121,14 @@ enough-then x ds sc ss y e l (c, k) =
     (omega arith, omega arith)
 
 -- the due on top, done
-module _ {t : List ℕ} {st st' : Stack} {ns ns' b b' : List ℕ} {n r : Now} {top : ℕ} {d : Due} {a : Ahead} {p : Plan} (low : top ≡ n.top - 1) (due : d ≡ get_or st top D.Nothing) (ahead : Aheads t n.at a) (plan : Plans t n.at d (code_is a.sign) p) (act : Acts t st st' ns ns' b b' (record { ok = n.ok; at = n.at; top = top; bound = n.bound; pen = n.pen }) a p r) where
+module _ {t : List ℕ} {st st' : Stack} {ns ns' b b' : List ℕ} {n r : Now} {top : ℕ} {d : Due ℕ} {a : Ahead} {p : Plan} (low : top ≡ n.top - 1) (due : d ≡ get_or st top D.Nothing) (ahead : Aheads t n.at a) (plan : Plans t n.at d (code_is a.sign) p) (act : Acts t st st' ns ns' b b' (record { ok = n.ok; at = n.at; top = top; bound = n.bound; pen = n.pen }) a p r) where
   does-top : length t ≤ 16384 → (x : part.Due) (ds : List part.Due) (sc : Scope) (ss : List Sign) → Holds t st ns n (x ∷ ds) sc ss → DoneAs (due_at x sc ss) ds t st' ns' b b' n.pen r
   does-top short x ds sc ss h =
       let (k, e, m, f, rest) = h.dues in
       let at : top ≡ k = omega arith in
       let is : get_or st k D.Nothing ≡ d = sym (due ∙ ap (λ (i : ℕ). get_or st i D.Nothing) at) in
       let c = code-seen t a ss (ahead.seen ss h.signs) in
-      let same : due_at x sc ss ≡ planned p sc ss = plan.does ss h.signs c x (subst (λ (y : Due). meant y ≡ x ∷ []) is m) sc in
+      let same : due_at x sc ss ≡ planned p sc ss = plan.does ss h.signs c x (subst (λ (y : Due ℕ). meant y ≡ x ∷ []) is m) sc in
       let now : Holds t st ns (record { ok = n.ok; at = n.at; top = top; bound = n.bound; pen = n.pen }) ds sc ss = record {
         dues = subst (λ (i : ℕ). Held st i ds) (sym at) rest;
         names = h.names;

@@ -147,7 +147,7 @@ fn bind(names: &mut [usize], bound: usize, at: usize, w: Writes) -> usize
 
 // What a plan leaves due, its first due on top.
 // Kept: this writes the places from where the slice would end.
-fn pushed(stack: &mut [Due], top: usize, p: Plan) -> usize
+fn pushed(stack: &mut [Due<u16>], top: usize, p: Plan) -> usize
     ensures { Pushing stack.old stack.new top p result }
 {
     let fourth = p.fourth;
@@ -170,7 +170,7 @@ fn place(takes: bool, end: usize, at: usize) -> usize
 // A plan carried out, where the sign ahead is known.
 pub fn act(
     text: &[u8],
-    stack: &mut [Due],
+    stack: &mut [Due<u16>],
     names: &mut [usize],
     buf: &mut [u8],
     n: Now,

@@ -4,15 +4,16 @@ ghost use Rattle.fof_pass.specs.Dues.{sort_is};
 ghost use Rattle.fof_act.specs.Holding.{Steps, Formulas};
 
 use crate::act::{Now, act};
-use fof_pass::{Due, Pen, Sort, entry, push, sign_ahead};
+use fof_pass::{Due, Pen, Sort, due_of, entry, push, sign_ahead};
 use fof_plan::plan_for;
 
 // The due on top.
-fn step(text: &[u8], stack: &mut [Due], names: &mut [usize], buf: &mut [u8], n: Now) -> Now
+fn step(text: &[u8], stack: &mut [Due<u16>], names: &mut [usize], buf: &mut [u8], n: Now) -> Now
     ensures { Steps text.now stack.old stack.new names.old names.new buf.old buf.new n result }
 {
     let top = n.top.saturating_sub(1);
-    let d = entry(stack, top, Due::Nothing);
+    let held = entry(stack, top, Due::Nothing);
+    let d = due_of(held);
     let a = sign_ahead(text, n.at);
     let p = plan_for(text, n.at, d, a.sign);
     let m = Now { top, ..n };
@@ -29,7 +30,7 @@ pub fn stopped(n: Now) -> Now
 // A formula of a sort, with as many steps as the bytes left can need.
 pub fn formula(
     text: &[u8],
-    stack: &mut [Due],
+    stack: &mut [Due<u16>],
     names: &mut [usize],
     buf: &mut [u8],
     pen: Pen,

@@ -87,7 +87,7 @@ pub fn introduced(text: &[u8], at: usize) -> Option<Opened>
 // The formula and what closes the line.
 pub fn body(
     text: &[u8],
-    stack: &mut [Due],
+    stack: &mut [Due<u16>],
     names: &mut [usize],
     buf: &mut [u8],
     pen: Pen,

@@ -1,5 +1,5 @@
 // All lines: the axioms into the rules' file, the conjectures into the goal's.
-ghost use Rattle.std.specs.Prelude.{◌≡◌, false, List, ℕ, ◌+◌, ◌<◌};
+ghost use Rattle.std.specs.Prelude.{◌≡◌, false, List, ℕ, ◌+◌, ◌<◌, length};
 ghost use Rattle.fof_truth.specs.Formula as truth;
 ghost use Rattle.fof_lines.specs.Lined.{Lines, Adds, Starts, Ends, PassesIn, Passes};
 
@@ -30,7 +30,7 @@ fn refused(p: Passed) -> Passed
 fn axiom(
     text: &[u8],
     rules: &mut [u8],
-    stack: &mut [Due],
+    stack: &mut [Due<u16>],
     names: &mut [usize],
     p: Passed,
     at: usize,
@@ -54,7 +54,7 @@ fn axiom(
 fn conjecture(
     text: &[u8],
     goal: &mut [u8],
-    stack: &mut [Due],
+    stack: &mut [Due<u16>],
     names: &mut [usize],
     p: Passed,
     at: usize,
@@ -78,7 +78,7 @@ fn line(
     text: &[u8],
     rules: &mut [u8],
     goal: &mut [u8],
-    stack: &mut [Due],
+    stack: &mut [Due<u16>],
     names: &mut [usize],
     p: Passed,
 ) -> Passed
@@ -126,7 +126,7 @@ fn lines(
     text: &[u8],
     rules: &mut [u8],
     goal: &mut [u8],
-    stack: &mut [Due],
+    stack: &mut [Due<u16>],
     names: &mut [usize],
 ) -> Passed
     ensures { PassesIn text.now stack.old stack.new names.old names.new rules.old rules.new goal.old goal.new result }
@@ -150,11 +150,19 @@ fn lines(
     }
 }
 
+// So many places, all the same.
+// Kept: an array of `Due::Nothing` as such is filled twice, once more by a loop over its places; of a value that is handed in it is filled once.
+fn filled<T: Copy, const N: usize>(x: T) -> [T; N]
+    ensures { length result ≡ N }
+{
+    [x; N]
+}
+
 // All lines of a text, with work memory for the longest that is read.
 pub fn pass(text: &[u8], rules: &mut [u8], goal: &mut [u8]) -> Passed
     ensures { Passes text.now rules.old rules.new goal.old goal.new result }
 {
-    let mut stack = [Due::Nothing; 98400];
+    let mut stack: [Due<u16>; 98400] = filled(Due::Nothing);
     let mut names = [0usize; 16385];
     lines(text, rules, goal, &mut stack, &mut names)
 }

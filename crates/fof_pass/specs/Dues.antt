@@ -21,7 +21,7 @@ quantifier_is true = Quantifier.for_all
 quantifier_is false = Quantifier.exists
 
 -- the due that is meant, or none
-abbrev pub meant : Due → List part.Due
+abbrev pub meant : Due ℕ → List part.Due
 meant D.Nothing = []
 meant (D.Formula s) = part.Due.formula (sort_is s) ∷ []
 meant (D.Unit s) = part.Due.unit (sort_is s) ∷ []
@@ -39,7 +39,7 @@ meant D.Shut = part.Due.shut ∷ []
 meant D.Leave = part.Due.leave ∷ []
 
 -- its number, if it has one, is no more than a text has bytes
-abbrev pub Few : Due → Type 0
+abbrev pub Few : Due ℕ → Type 0
 Few D.Nothing = Unit {0}
 Few (D.Formula s) = Unit {0}
 Few (D.Unit s) = Unit {0}
@@ -58,7 +58,7 @@ Few D.Leave = Unit {0}
 
 -- a list of dues, of which those below a height count
 abbrev pub Stack : Type 0
-Stack = List Due
+Stack = List (Due ℕ)
 
 -- those below this height are these dues, the first on top
 abbrev pub Held : Stack → ℕ → List part.Due → Type 0
@@ -66,7 +66,7 @@ Held st top [] = top ≡ 0
 Held st top (d ∷ ds) = (n : ℕ) × (top ≡ suc n) × (meant (get_or st n D.Nothing) ≡ d ∷ []) × Few (get_or st n D.Nothing) × Held st n ds
 
 -- one due more, where there is room for it
-pub record Pushes (d : Due) (st st' : Stack) (top next : ℕ) : Type 0 where
+pub record Pushes (d : Due ℕ) (st st' : Stack) (top next : ℕ) : Type 0 where
   pub held : top < 98400 → top < length st → Few d → (ds : List part.Due) → Held st top ds → Held st' next (meant d ++ ds)
   pub long : length st' ≡ length st
   pub high : next ≤ suc top

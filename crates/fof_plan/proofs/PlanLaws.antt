@@ -139,7 +139,7 @@ module _ (f : Scope → List Sign → Option Did) (c n : ℕ) {r : Plan} where
   likewise g d h = record { does = λ ss e sc. d ss e sc ∙ h.does ss e sc; sane = h.sane }
 
 -- a sign that is taken where it is ahead
-module _ (c wanted n : ℕ) (a b d : Due) {r : Plan} (l : wanted < 16) (few : FewBy n a b d) where
+module _ (c wanted n : ℕ) (a b d : Due ℕ) {r : Plan} (l : wanted < 16) (few : FewBy n a b d) where
   pub taken-hit : c ≡ wanted → r ≡ doing true W.Nothing a b d D.Nothing → PlansAs (taking_to wanted (meant a ++ (meant b ++ (meant d ++ [])))) c n r
   taken-hit h e =
       let ds = meant a ++ (meant b ++ (meant d ++ [])) in
@@ -415,7 +415,7 @@ abbrev Bare : List part.Due → Type 0
 Bare [] = Unit {0}
 Bare (x ∷ xs) = ⊥
 
-module _ (t : List ℕ) (at c : ℕ) {d d' : Due} {p : Plan} (e : d ≡ d') where
+module _ (t : List ℕ) (at c : ℕ) {d d' : Due ℕ} {p : Plan} (e : d ≡ d') where
   due-plan : (x : part.Due) (n : ℕ) → meant d' ≡ x ∷ [] → (Few d' → n < 16385) → PlansAs (due_at x) c n p → Plans t at d c p
   due-plan x n m f h = record {
     does = λ ss sg o y k sc. subst (λ (z : part.Due). due_at z sc ss ≡ planned p sc ss) (first-is (sym m ∙ (sym (ap meant e) ∙ k))) (h.does ss o sc);
@@ -424,7 +424,7 @@ module _ (t : List ℕ) (at c : ℕ) {d d' : Due} {p : Plan} (e : d ≡ d') wher
     few = λ l g. h.sane.few (f (subst Few e g));
   }
 
-module _ (t : List ℕ) (at c : ℕ) {d : Due} {p : Plan} where
+module _ (t : List ℕ) (at c : ℕ) {d : Due ℕ} {p : Plan} where
   pub for-nothing : d ≡ D.Nothing → p ≡ refusal → Plans t at d c p
   for-nothing e i = record {
     does = λ ss sg o y k sc. absurd (subst Bare (sym (ap meant e) ∙ k) tt);

@@ -78,7 +78,7 @@ refusal = record {
   fourth = D.Nothing;
 }
 
-abbrev pub doing : Bool → Writes → Due → Due → Due → Due → Plan
+abbrev pub doing : Bool → Writes → Due ℕ → Due ℕ → Due ℕ → Due ℕ → Plan
 doing t w a b c d = record { ok = true; takes = t; writes = w; first = a; second = b; third = c; fourth = d }
 
 -- the sign that a name is written of is one that holds it; a variable that becomes bound is taken
@@ -110,11 +110,11 @@ abbrev pub taking_to : ℕ → List part.Due → Scope → List Sign → Option 
 taking_to c ds sc ss = taking c ss >>= λ r. did [] ds sc r
 
 -- three dues may be made of the number n: theirs are no more than a text has bytes, if n is
-abbrev pub FewBy : ℕ → Due → Due → Due → Type 0
+abbrev pub FewBy : ℕ → Due ℕ → Due ℕ → Due ℕ → Type 0
 FewBy n a b c = n < 16385 → Few a × Few b × Few c
 
 -- the plan for a due at a place
-pub record Plans (t : List ℕ) (at : ℕ) (d : Due) (c : ℕ) (p : Plan) : Type 0 where
+pub record Plans (t : List ℕ) (at : ℕ) (d : Due ℕ) (c : ℕ) (p : Plan) : Type 0 where
   pub does : (ss : List Sign) → signs_at t at ≡ some ss → c ≡ code_ahead ss → (x : part.Due) → meant d ≡ x ∷ [] → (sc : Scope) → due_at x sc ss ≡ planned p sc ss
   pub named : Named p.writes p.takes c
   pub taken : p.takes ≡ true → c < 16

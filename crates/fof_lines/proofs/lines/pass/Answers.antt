@@ -11,4 +11,4 @@ pub shape_of-goal : goal.shape_of-goal
 shape_of-goal c = c.lines.ensures.kept.goal
 
 pub returns : goal.returns
-returns c = let e = c.lines.ensures in record { rules = e.kept.rules; goal = e.kept.goal; does = λ l ss s. e.does l (room_for 98400 16385 _ _ (length-replicate {A = ℕ} 98400 0) (length-replicate {A = ℕ} 16385 0)) ss s }
+returns c = let e = c.lines.ensures in record { rules = e.kept.rules; goal = e.kept.goal; does = λ l ss s. e.does l (room_for 98400 16385 _ _ c.filled-stack.ensures (length-replicate {A = ℕ} 16385 0)) ss s }
