@@ -82,13 +82,18 @@ pub fn node(
         }
         Some(Entered::Two(start, first, second)) => {
             let one = node(files, strip, start, room, first, nest - 1)?;
-            let two = node(files, strip, one.next, room, second, nest - 1)?;
-            let both = Fit {
-                next: two.next,
-                height: one.height.max(two.height),
-                nodes: one.nodes + two.nodes,
-            };
-            close(strip.len(), at, both, nest)
+            // Kept: with `?` the edit `second_part_nodded_through` has no value to change.
+            match node(files, strip, one.next, room, second, nest - 1) {
+                Err(o) => Err(o),
+                Ok(two) => {
+                    let both = Fit {
+                        next: two.next,
+                        height: one.height.max(two.height),
+                        nodes: one.nodes + two.nodes,
+                    };
+                    close(strip.len(), at, both, nest)
+                }
+            }
         }
     }
 }

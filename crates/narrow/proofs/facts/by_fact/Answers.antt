@@ -1,5 +1,9 @@
 -- `by_fact` of src/facts.rt meets its contract. Assumes nothing.
 use Rattle.narrow.proofs.FactLaws.{fact-by-head, fact-never, fact-is}
+use Prim.Native.Nat.{ℕ}
+use mathlib.Core.Path.{◌∙◌, ap}
+use lib.ListN.{set}
+use native.Mathlib.Omega.{arith}
 use Rattle.narrow.proofs.facts.by_fact.Goals as goal
 
 pub returns-then-a-eq0 : goal.returns-then-a-eq0
@@ -20,4 +24,4 @@ returns-in-Never c = let x = c.args in
 
 pub returns-in-Candidate : goal.returns-in-Candidate
 returns-in-Candidate c = let x = c.args in
-    fact-is x.files.now x.room.now x.a.atom x.y x.a.own x.a.variable x.a.arguments x.kept x.marks.now c.if-a-eq0.false c.if-kept-eq0.false c.between.result c.between.ensures c.in-Candidate.is c.mark.ensures
+    fact-is x.files.now x.room.now x.a.atom x.y x.a.own x.a.variable x.a.arguments x.kept x.marks.now c.if-a-eq0.false c.if-kept-eq0.false c.between.result c.between.ensures c.in-Candidate.is (c.mark.ensures ∙ ap (λ (m : ℕ). set x.marks.now m 1) (omega arith))
