@@ -61,6 +61,13 @@ a-node (Strip.imp P) v e a b c d f g h i = f e
 a-node (Strip.use₀ k path) v e a b c d f g h i = i e
 a-node (Strip.use₁ k path P) v e a b c d f g h i = i e
 
+-- words with the same place in the table are the same, and those with different ones are not
+pub word-other : {a b : Word} {m n : ℕ} → m ≡ rank a → n ≡ rank b → (m ≡ n → ⊥) → a ≡ b → ⊥
+word-other p q o e = o (p ∙ (ap rank e ∙ sym q))
+
+pub word-same : {a b : Word} {m n : ℕ} → m ≡ rank a → n ≡ rank b → m ≡ n → a ≡ b
+word-same {a} {b} p q e = rank-once a b (sym p ∙ (e ∙ q))
+
 -- equal parts, equal answers
 pub one_alike : {a b : ℕ} {x y : Where} → a ≡ b → x ≡ y → Some (E.One a x) ≡ Some (E.One b y)
 one_alike p q = cc

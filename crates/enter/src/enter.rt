@@ -18,7 +18,7 @@ use start::may_use;
 use uses::Entered;
 
 // A word's place in the table's list of words.
-// Kept: docs/DEMANDS.md and docs/EXCEPTIONS.md name it; nothing here goes by numbers of words.
+// Kept: docs/DEMANDS.md and docs/EXCEPTIONS.md say what it is for every word, and the tests below go by it.
 pub fn rank(w: Word) -> usize
     ensures { result ≡ table.rank w }
 {
@@ -46,9 +46,10 @@ pub fn rank(w: Word) -> usize
 pub fn enter_top(files: &Files, at: usize, w: Where) -> Option<Entered>
     ensures { (ss room : List ℕ) (nest : ℕ) → EnteringAs W.Top files.now ss room room at w nest result }
 {
-    let Word::Top = word_there(files, w.goal) else {
+    let there = word_there(files, w.goal);
+    if rank(there) != rank(Word::Top) {
         return None;
-    };
+    }
     Some(Entered::Leaf(plus(at, 7)))
 }
 
@@ -56,9 +57,10 @@ pub fn enter_top(files: &Files, at: usize, w: Where) -> Option<Entered>
 pub fn enter_and(files: &Files, at: usize, w: Where) -> Option<Entered>
     ensures { (ss room : List ℕ) (nest : ℕ) → EnteringAs W.And files.now ss room room at w nest result }
 {
-    let Word::And = word_there(files, w.goal) else {
+    let there = word_there(files, w.goal);
+    if rank(there) != rank(Word::And) {
         return None;
-    };
+    }
     let n = past_part(files, w.goal, 6)?;
     Some(Entered::Two(plus(at, 6), within(w, 6), within(w, n)))
 }
@@ -67,9 +69,10 @@ pub fn enter_and(files: &Files, at: usize, w: Where) -> Option<Entered>
 pub fn enter_left(files: &Files, at: usize, w: Where) -> Option<Entered>
     ensures { (ss room : List ℕ) (nest : ℕ) → EnteringAs W.Left files.now ss room room at w nest result }
 {
-    let Word::Or = word_there(files, w.goal) else {
+    let there = word_there(files, w.goal);
+    if rank(there) != rank(Word::Or) {
         return None;
-    };
+    }
     Some(Entered::One(plus(at, 7), within(w, 5)))
 }
 
@@ -77,9 +80,10 @@ pub fn enter_left(files: &Files, at: usize, w: Where) -> Option<Entered>
 pub fn enter_right(files: &Files, at: usize, w: Where) -> Option<Entered>
     ensures { (ss room : List ℕ) (nest : ℕ) → EnteringAs W.Right files.now ss room room at w nest result }
 {
-    let Word::Or = word_there(files, w.goal) else {
+    let there = word_there(files, w.goal);
+    if rank(there) != rank(Word::Or) {
         return None;
-    };
+    }
     let n = past_part(files, w.goal, 5)?;
     Some(Entered::One(plus(at, 8), within(w, n)))
 }
@@ -88,9 +92,10 @@ pub fn enter_right(files: &Files, at: usize, w: Where) -> Option<Entered>
 pub fn enter_all(files: &Files, at: usize, room: &mut [u32], w: Where) -> Option<Entered>
     ensures { (ss : List ℕ) (nest : ℕ) → EnteringAs W.All files.now ss room.old room.new at w nest result }
 {
-    let Word::All = word_there(files, w.goal) else {
+    let there = word_there(files, w.goal);
+    if rank(there) != rank(Word::All) {
         return None;
-    };
+    }
     let p = w.parameters;
     if 64 <= p {
         return None;
@@ -103,9 +108,10 @@ pub fn enter_all(files: &Files, at: usize, room: &mut [u32], w: Where) -> Option
 pub fn enter_imp(files: &Files, at: usize, room: &mut [u32], w: Where) -> Option<Entered>
     ensures { (ss : List ℕ) (nest : ℕ) → EnteringAs W.Imp files.now ss room.old room.new at w nest result }
 {
-    let Word::Imp = word_there(files, w.goal) else {
+    let there = word_there(files, w.goal);
+    if rank(there) != rank(Word::Imp) {
         return None;
-    };
+    }
     let n = past_part(files, w.goal, 6)?;
     suppose(room, w.supposed, further(w.goal, 6));
     Some(Entered::One(plus(at, 6), supposes(w, n)))
@@ -128,9 +134,10 @@ pub fn enter_some(
 ) -> Option<Entered>
     ensures { (nest : ℕ) → EnteringAs W.Some files.now strip.now room.old room.new at w nest result }
 {
-    let Word::Some = word_there(files, w.goal) else {
+    let there = word_there(files, w.goal);
+    if rank(there) != rank(Word::Some) {
         return None;
-    };
+    }
     let from = plus(at, 7);
     let i = number(strip, from)?;
     if !may_use(room, w.parameters, i) {

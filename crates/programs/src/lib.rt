@@ -31,6 +31,16 @@ fn as_text(name: &[u8]) -> io::Result<&str>
     ))
 }
 
+// The file of this name; none where it cannot be opened, which is not the same as one that is there and empty.
+fn open_file<R: Files>(files: &R, path: &[u8]) -> io::Result<Option<R::File>>
+    ensures { IfErr result (λ e. ¬ (IsUtf8 path.now)) }
+{
+    match fs::open(files, as_text(path)?) {
+        Err(_) => Ok(None),
+        Ok(file) => Ok(Some(file)),
+    }
+}
+
 // Reads until the buffer is full, the input ends or a read fails. How many bytes were put at its start.
 // Kept: no call of the library fills a lent buffer and says how far; `read_exact` says little after an error, and `read_to_end` needs the heap.
 fn read_full<R: Read>(input: &mut R, buf: &mut [u8]) -> usize
@@ -52,11 +62,10 @@ pub fn load(files: &impl Files, path: &[u8], buf: &mut [u8]) -> io::Result<usize
     ensures read { IfOk result (λ n. IsPrefixLen n buf.new) }
     ensures not_text { IfErr result (λ e. (buf.new ≡ buf.old) × ¬ (IsUtf8 path.now)) }
 {
-    let name = as_text(path)?;
-    let Ok(mut file) = fs::open(files, name) else {
-        return Ok(0);
-    };
-    Ok(read_full(&mut file, buf))
+    match open_file(files, path)? {
+        None => Ok(0),
+        Some(mut file) => Ok(read_full(&mut file, buf)),
+    }
 }
 
 // The same, and lends the bytes that were read.

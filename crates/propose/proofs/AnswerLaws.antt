@@ -104,13 +104,13 @@ module _ (h : ℕ) (f : Files) (room room₁ room₂ d : List ℕ) (r : Bool) (t
   pub none_found : (q : Proposal) → r ≡ false → q ≡ proposal (Comes.refuses R.NoProof F.None) → Searching h f room d d q
   unfolding of_first
   none_found q n a b s low long =
-      let y = p b (t h b s low long) in
+      let y = p b (t h f.goal b s low long) in
       refusing (of_first (length d) (first_strip h b)) R.NoProof F.None d q (ap (of_first (length d)) (no_none (first_strip h b) r y.answer n)) a
 
   pub some-found : (d' : List ℕ) (q : Proposal) → r ≡ true → Filling h f room₂ d d' q → Searching h f room d d' q
   unfolding of_first
   some-found d' q n g b s low long =
-      let y = p b (t h b s low long) in
+      let y = p b (t h f.goal b s low long) in
       let (S, e) = yes-some (first_strip h b) r y.answer n in
       subst (λ (o : Option Strip). Says (of_first (length d) o) d d' q) (sym e) (g b S y.stays e)
 

@@ -10,7 +10,7 @@ use Rattle.packet.specs.File.{Books}
 use Rattle.packet.specs.Sound.{SoundBooks}
 use Rattle.room.specs.Layout.{words, stack}
 use Rattle.room.specs.Where.{Live, Kept, Booked}
-use Rattle.room.specs.Files.{Files}
+use Rattle.room.specs.Files.{Files, files_of}
 use Rattle.room.specs.Start.{start, Tabled}
 use Rattle.room.specs.declared.Where.{Where}
 use Rattle.room.proofs.EnoughLaws.{enough-at-start}
@@ -39,21 +39,22 @@ below-keys i (Live.low l) = omega arith
 below-keys i (Live.high l h) = h
 
 -- a packet that is read is set out once its tables are filled, the numbers, the heads and their arguments are in theirs, and no slot of the table of atoms holds anything
-set_out : (f : Files) (room tables keys heads arguments after : List ℕ) → length tables ≡ length room → (words ≤ length room → Tabled tables f.rules f.terms) → KeysFilled tables keys f.rules f.terms → HeadsFilled keys heads f.rules → ArgumentsFilled heads arguments f.rules f.terms → TableOnly arguments after → Empty after
+pub set_out : (f : Files) (room tables keys heads arguments after : List ℕ) → length tables ≡ length room → (words ≤ length room → Tabled tables f.rules f.terms) → KeysFilled tables keys f.rules f.terms → HeadsFilled keys heads f.rules → ArgumentsFilled heads arguments f.rules f.terms → TableOnly arguments after → Empty after
     → Setting f room after
-set_out f room tables keys heads arguments after e t k d g o n h b s low long =
+set_out f room tables keys heads arguments after e t k d g o n h gs b s low long =
+    let q : Files = files_of f.rules gs f.terms in
     let place = root-means b s (t long) in
     let few = place.booked.rules.few in
     let many = place.booked.candidates.few in
     let numbered : Kept 0 stack tables keys = λ i l. k.within.below i (omega (arith, below-keys i l)) in
     let placed : Kept 0 stack keys heads = λ i l. d.within.below i (omega (arith, below-keys i l)) in
     let argued : Kept 0 stack heads arguments = λ i l. g.within.below i (omega (arith, below-keys i l)) in
-    let booked : Booked f keys b.rules b.candidates = (means-kept numbered place).booked in
-    let headed : Booked f heads b.rules b.candidates = booked-kept placed booked in
+    let booked : Booked q keys b.rules b.candidates = (means-kept numbered place).booked in
+    let headed : Booked q heads b.rules b.candidates = booked-kept placed booked in
     let last = kept_then {s' = 0} {t' = stack} heads arguments after (omega arith) (omega arith) argued (kept-below (omega arith) (omega arith) o) in
     let kept = kept_then {s' = 0} {t' = stack} tables keys after (omega arith) (omega arith) numbered (kept_then {s' = 0} {t' = stack} keys heads after (omega arith) (omega arith) placed last) in
-    let keyed : KeysIn heads b.rules b.candidates = keys_kept few many (λ i l. d.within.below i (omega arith)) (λ i l m. d.within.above i (omega arith)) (λ i l m. d.within.above i (omega arith)) (k.right (omega arith) f.goal b.rules b.candidates place.booked) in
-    let heading : HeadsIn heads f.rules b.rules = d.right (omega (arith, k.within.long)) f.goal f.terms b.rules b.candidates booked in
+    let keyed : KeysIn heads b.rules b.candidates = keys_kept few many (λ i l. d.within.below i (omega arith)) (λ i l m. d.within.above i (omega arith)) (λ i l m. d.within.above i (omega arith)) (k.right (omega arith) gs b.rules b.candidates place.booked) in
+    let heading : HeadsIn heads f.rules b.rules = d.right (omega (arith, k.within.long)) gs f.terms b.rules b.candidates booked in
     record {
       low = low;
       long = omega (arith, o.long, g.within.long, d.within.long, k.within.long);
@@ -62,8 +63,8 @@ set_out f room tables keys heads arguments after e t k d g o n h b s low long =
           record {
             keys = keys_below few many o (keys_kept few many (λ i l. g.within.below i (omega arith)) (λ i l m. g.within.below i (omega arith)) (λ i l m. g.within.above i (omega arith)) keyed);
             heads = heads-below f.rules b.rules few o (heads-kept f.rules arguments heads b.rules (λ j m. (g.within.below (3712 + j) (omega (arith, m, few)), g.within.below (3968 + j) (omega (arith, m, few)))) heading);
-            arguments = arguments-below b.rules b.candidates few o (g.right (omega (arith, d.within.long, k.within.long)) f.goal b.rules b.candidates headed keyed heading);
-            good = good-empty f b.candidates (truth b.candidates (length b.rules) (at_start b.rules)) (choice b.candidates (length b.rules) (at_start b.rules)) 0 after n;
+            arguments = arguments-below b.rules b.candidates few o (g.right (omega (arith, d.within.long, k.within.long)) gs b.rules b.candidates headed keyed heading);
+            good = good-empty q b.candidates (truth b.candidates (length b.rules) (at_start b.rules)) (choice b.candidates (length b.rules) (at_start b.rules)) 0 after n;
           };
     }
 

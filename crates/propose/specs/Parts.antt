@@ -8,7 +8,7 @@ use Rattle.packet.specs.File.{most_bytes, Books}
 use Rattle.packet.specs.Sound.{SoundBooks}
 use Rattle.room.specs.Layout.{words}
 use Rattle.room.specs.Where.{Means}
-use Rattle.room.specs.Files.{Files}
+use Rattle.room.specs.Files.{Files, files_of}
 use Rattle.room.specs.Start.{start}
 use Rattle.proving.specs.Provable.{is_some}
 use Rattle.proving.specs.Stock.{Stock}
@@ -25,9 +25,9 @@ pub record SetOut (h : ℕ) (f : Files) (room : List ℕ) (b : Books) : Type 0 w
   pub place : Means f room b.rules b.candidates start [] (at_start b.rules) [] b.goal
   pub stock : Stock f b.rules b.candidates 0 (at_start b.rules) room
 
--- the room made so that a packet that is read is set out
+-- the room made so that a packet that is read is set out, whichever goal it has
 abbrev pub Setting : Files → List ℕ → List ℕ → Type 0
-Setting f room after = (h : ℕ) (b : Books) → SoundBooks f.rules f.goal f.terms b → h ≤ most_height → words ≤ length room → SetOut h f after b
+Setting f room after = (h : ℕ) (gs : List ℕ) (b : Books) → SoundBooks f.rules gs f.terms b → h ≤ most_height → words ≤ length room → SetOut h (files_of f.rules gs f.terms) after b
 
 -- whether there is a strip within the height; the packet stays set out
 pub record Told (h : ℕ) (f : Files) (after : List ℕ) (b : Books) (r : Bool) : Type 0 where

@@ -45,7 +45,8 @@ fn has_proof(files: &Files, height: usize, room: &mut [u32]) -> bool
 fn measure(files: &Files, height: usize, scratch: &mut [u8], room: &mut [u32]) -> Drawn
     ensures { Measuring height files.now room.old room.new scratch.old scratch.new result }
 {
-    write_goal(files, room, scratch, first_place(), height, 0)
+    let w = first_place();
+    write_goal(files, room, scratch, w, height, 0)
 }
 
 // The longest strip that a buffer of so many bytes may get.

@@ -55,6 +55,30 @@ pub(crate) fn word_of(w: &[u8]) -> Word
     word_by(key(w))
 }
 
+// The number of the three octets from an offset on, read at once.
+fn key_three(s: &[u8], from: usize) -> u64
+    requires { from + 3 ≤ length s.now }
+    ensures { Keyed (take 3 (drop from s.now)) result }
+{
+    let a = s[from] as u64;
+    let b = s[from + 1] as u64;
+    let c = s[from + 2] as u64;
+    16777216 + a * 65536 + b * 256 + c
+}
+
+// The number of the four octets from an offset on.
+// Kept: it differs from `key_three` in how many octets are written out, which keyed-three and keyed-four (proofs/KeyLaws) say; one function over both would be `key`, a loop.
+fn key_four(s: &[u8], from: usize) -> u64
+    requires { from + 4 ≤ length s.now }
+    ensures { Keyed (take 4 (drop from s.now)) result }
+{
+    let a = s[from] as u64;
+    let b = s[from + 1] as u64;
+    let c = s[from + 2] as u64;
+    let d = s[from + 3] as u64;
+    4294967296 + a * 16777216 + b * 65536 + c * 256 + d
+}
+
 // A yes says that six bytes or more stand at an offset, and that the second is a colon.
 fn is_colon_next(s: &[u8], at: usize) -> bool
     ensures { result ≡ true → (at + 6 ≤ length s.now) × (get_or s.now (at + 1) 0 ≡ 58) }
@@ -69,10 +93,10 @@ pub fn word_at(s: &[u8], at: usize) -> Word
     if is_colon_next(s, at) {
         let n = s[at];
         if n == b'3' {
-            return word_by(key(&s[at + 2..at + 5]));
+            return word_by(key_three(s, at + 2));
         }
         if n == b'4' {
-            return word_by(key(&s[at + 2..at + 6]));
+            return word_by(key_four(s, at + 2));
         }
     }
     word_long(s, at)

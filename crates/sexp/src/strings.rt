@@ -32,8 +32,8 @@ pub fn plain(s: &[u8], at: usize) -> Option<(usize, usize)>
     if s.len() < at {
         return None;
     }
-    let Ok((from, to)) = verbatim(s, at) else {
-        return None;
-    };
-    Some((from, to - from))
+    match verbatim(s, at) {
+        Err(_) => None,
+        Ok((from, to)) => Some((from, to - from)),
+    }
 }

@@ -37,7 +37,7 @@ use Rattle.equal.proofs.RestLaws.{past-on}
 pub number-some : {s : List ℕ} {v : Option ℕ} {k : ℕ} → v ≡ Some k → NumberAt s 4 v → NumberAfter s k
 number-some {v = v} e a i h l = let q = number_read i v h l a in cc
 
-number-none : {s : List ℕ} {v : Option ℕ} → v ≡ None → NumberAt s 4 v → NumberAfter s 0
+pub number-none : {s : List ℕ} {v : Option ℕ} → v ≡ None → NumberAt s 4 v → NumberAfter s 0
 number-none {v = v} e a i h l = absurd (unread (number_read i v h l a) e)
 
 pub number-told : {s : List ℕ} (v : Option ℕ) → NumberAt s 4 v → NumberAfter s (unwrap_or v 0)
