@@ -11,7 +11,9 @@ ghost use Rattle.fof_pass.specs.Ink.{Inks};
 ghost use Rattle.fof_pass.specs.Names.{Scoped};
 ghost use Rattle.fof_act.specs.Holding.{named_marks, variable_marks, WrittenAs, Writing, Binding, Pushing, Acts};
 
-use fof_pass::{Ahead, Due, Pen, cut, end, enter, head, heads, number, number_of, push, string};
+use fof_pass::{
+    Ahead, Due, Pen, cut, end, enter, head, heads, number, number_of, push_short, string,
+};
 use fof_plan::{Plan, Writes};
 use sexp::is_name_of;
 
@@ -98,7 +100,7 @@ fn quantifier(buf: &mut [u8], pen: Pen, every: bool) -> Pen
 
 // What a plan writes.
 // Kept: `bound` is the front of `names`, as in `variable`; the memory is lent to each function apart, since each writes another part of it.
-fn write(
+pub(crate) fn write(
     text: &[u8],
     names: &[usize],
     bound: usize,
@@ -125,7 +127,7 @@ fn write(
 
 // How many variables are bound then.
 // Kept: this writes the place where the slice would end.
-fn bind(names: &mut [usize], bound: usize, at: usize, w: Writes) -> usize
+pub(crate) fn bind(names: &mut [usize], bound: usize, at: usize, w: Writes) -> usize
     ensures { Binding names.old names.new bound at w result }
 {
     match w {
@@ -154,14 +156,14 @@ fn pushed(stack: &mut [Due<u16>], top: usize, p: Plan) -> usize
     let third = p.third;
     let second = p.second;
     let first = p.first;
-    let top = push(stack, top, fourth);
-    let top = push(stack, top, third);
-    let top = push(stack, top, second);
-    push(stack, top, first)
+    let top = push_short(stack, top, fourth);
+    let top = push_short(stack, top, third);
+    let top = push_short(stack, top, second);
+    push_short(stack, top, first)
 }
 
 // Where the signs left start.
-fn place(takes: bool, end: usize, at: usize) -> usize
+pub(crate) fn place(takes: bool, end: usize, at: usize) -> usize
     ensures { result ≡ choose takes end at }
 {
     if takes { end } else { at }

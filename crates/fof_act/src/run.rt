@@ -4,7 +4,8 @@ ghost use Rattle.fof_pass.specs.Dues.{sort_is};
 ghost use Rattle.fof_act.specs.Holding.{Steps, Formulas};
 
 use crate::act::{Now, act};
-use fof_pass::{Due, Pen, Sort, due_of, entry, push, sign_ahead};
+use crate::wide;
+use fof_pass::{Due, Pen, Sort, due_of, entry, push, push_short, sign_ahead};
 use fof_plan::plan_for;
 
 // The due on top.
@@ -30,7 +31,7 @@ pub fn stopped(n: Now) -> Now
 // A formula of a sort, with as many steps as the bytes left can need.
 pub fn formula(
     text: &[u8],
-    stack: &mut [Due<u16>],
+    stack: &mut [Due],
     names: &mut [usize],
     buf: &mut [u8],
     pen: Pen,
@@ -40,6 +41,42 @@ pub fn formula(
     ensures { Formulas text.now stack.old stack.new names.old names.new buf.old buf.new pen at (sort_is sort) result }
 {
     let top = push(stack, 0, Due::Formula(sort));
+    let mut n = Now {
+        ok: true,
+        at,
+        top,
+        bound: 0,
+        pen,
+    };
+    let mut left = 98400usize;
+    // Kept: the turns are counted down beside the loop's own test, which comes first; behind a `for` over them it would be made once more.
+    while 0 < n.top {
+        if left == 0 {
+            return stopped(n);
+        }
+        if !n.ok {
+            return stopped(n);
+        }
+        n = wide::step(text, stack, names, buf, n);
+        left -= 1;
+    }
+    n
+}
+
+// The same, on a stack that holds its dues in fewer bytes.
+// Kept: a function of its own beside `formula`, as src/wide.rt says.
+pub fn formula_short(
+    text: &[u8],
+    stack: &mut [Due<u16>],
+    names: &mut [usize],
+    buf: &mut [u8],
+    pen: Pen,
+    at: usize,
+    sort: Sort,
+) -> Now
+    ensures { Formulas text.now stack.old stack.new names.old names.new buf.old buf.new pen at (sort_is sort) result }
+{
+    let top = push_short(stack, 0, Due::Formula(sort));
     let mut n = Now {
         ok: true,
         at,

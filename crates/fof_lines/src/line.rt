@@ -7,7 +7,7 @@ ghost use Rattle.fof_pass.specs.Dues.{sort_is};
 ghost use Rattle.fof_pass.specs.Taking.{TakesTo};
 ghost use Rattle.fof_lines.specs.Lined.{opened, labelled, roled, OpenedAs, Introduces, Bodies};
 
-use fof_act::{Now, formula, stopped};
+use fof_act::{Now, formula_short, stopped};
 use fof_pass::{Due, Pen, Sign, Sort, cut, sign_ahead, take};
 use sexp::{is_name_of, same};
 
@@ -96,7 +96,7 @@ pub fn body(
 ) -> Now
     ensures { Bodies text.now stack.old stack.new names.old names.new buf.old buf.new pen at (sort_is sort) result }
 {
-    let n = formula(text, stack, names, buf, pen, at, sort);
+    let n = formula_short(text, stack, names, buf, pen, at, sort);
     if !n.ok {
         return n;
     }

@@ -110,9 +110,24 @@ pub fn due_of(d: Due<u16>) -> Due
     }
 }
 
-// One due more, and the height then; where nothing is due, none.
+// One due more, and the height then; where nothing is due, none. A due with a number of any size stays as it is.
 // Kept: behind the dues there are free places, up to 98,400, which a slice that ends at the top doesn't reach.
-pub fn push(stack: &mut [Due<u16>], top: usize, d: Due) -> usize
+pub fn push(stack: &mut [Due], top: usize, d: Due) -> usize
+    ensures { Pushes d stack.old stack.new top result }
+{
+    if matches!(d, Due::Nothing) {
+        return top;
+    }
+    if top < 98400 {
+        enter(stack, top, d);
+        return top + 1;
+    }
+    top
+}
+
+// The same, on a stack that holds its dues in fewer bytes.
+// Kept: it differs from `push` in the stack's type and in what is entered. One function over both would take the number's type by a trait, and its clause would speak of what the stack's dues stand for where it speaks of the stack.
+pub fn push_short(stack: &mut [Due<u16>], top: usize, d: Due) -> usize
     ensures { Pushes d stack.old stack.new top result }
 {
     if matches!(d, Due::Nothing) {

@@ -8,7 +8,7 @@ mod ink;
 mod names;
 
 pub use ahead::{Ahead, Sign, cut, sign_ahead};
-pub use dues::{Due, Sort, due_of, enter, entry, push};
+pub use dues::{Due, Sort, due_of, enter, entry, push, push_short};
 pub use expected::take;
 pub use ink::{Pen, end, head, heads, number, string};
 pub use names::number_of;

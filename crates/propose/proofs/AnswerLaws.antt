@@ -30,7 +30,7 @@ use Rattle.drawing.specs.declared.Drawn.{Drawn}
 use Rattle.proposal.specs.declared.Proposal.{Proposal}
 use Rattle.proposal.specs.declared.Proposal.TheVariants as P
 use Rattle.proposal.specs.Proposed.{most_height, Comes, first_strip, unless_long, of_first, of_books, comes_to, proposal, proposal_of, over, left, buffer_after, paper, Proposes}
-use Rattle.propose.specs.Parts.{Setting, Telling, Measuring, Handing, Filling, Says, Searching, Answering}
+use Rattle.propose.specs.Parts.{SetOut, Telling, Measuring, Handing, Filling, Says, Searching, Answering}
 use Rattle.proposal.proofs.MeaningLaws.{unless-fits, unless-long, on_room, on-height, on-refused, once-low}
 use Rattle.proposal.proofs.WrittenLaws.{front-filled}
 
@@ -99,18 +99,18 @@ module _ (h : ℕ) (f : Files) (room after z z' d : List ℕ) (m : Drawn) (v : M
   pub drawn-again : (d' : List ℕ) (q : Proposal) → Filling h f after d d' q → Filling h f room d d' q
   drawn-again d' q g b S s e = g b S (v b S s e).stays e
 
--- the search of a packet that is read: in `room₁` it is set out, `room₂` is left by the yes or no
-module _ (h : ℕ) (f : Files) (room room₁ room₂ d : List ℕ) (r : Bool) (t : Setting f room room₁) (p : Telling h f room₁ room₂ r) where
+-- the search of a packet that is read: in `room₁` it is set out with the goal that it has, `room₂` is left by the yes or no
+module _ (h : ℕ) (f : Files) (room room₁ room₂ d : List ℕ) (r : Bool) (t : (b : Books) → SoundBooks f.rules f.goal f.terms b → h ≤ most_height → words ≤ length room → SetOut h f room₁ b) (p : Telling h f room₁ room₂ r) where
   pub none_found : (q : Proposal) → r ≡ false → q ≡ proposal (Comes.refuses R.NoProof F.None) → Searching h f room d d q
   unfolding of_first
   none_found q n a b s low long =
-      let y = p b (t h f.goal b s low long) in
+      let y = p b (t b s low long) in
       refusing (of_first (length d) (first_strip h b)) R.NoProof F.None d q (ap (of_first (length d)) (no_none (first_strip h b) r y.answer n)) a
 
   pub some-found : (d' : List ℕ) (q : Proposal) → r ≡ true → Filling h f room₂ d d' q → Searching h f room d d' q
   unfolding of_first
   some-found d' q n g b s low long =
-      let y = p b (t h f.goal b s low long) in
+      let y = p b (t b s low long) in
       let (S, e) = yes-some (first_strip h b) r y.answer n in
       subst (λ (o : Option Strip). Says (of_first (length d) o) d d' q) (sym e) (g b S y.stays e)
 

@@ -3,4 +3,4 @@ use Rattle.fof_act.proofs.ActLaws.{push-four}
 use Rattle.fof_act.proofs.act.pushed.Goals as goal
 
 pub returns : goal.returns
-returns c = push-four c.args.p c.push-top.ensures c.push-top-2.ensures c.push-top-3.ensures c.push.ensures
+returns c = push-four c.args.p c.push_short-top.ensures c.push_short-top-2.ensures c.push_short-top-3.ensures c.push_short.ensures

@@ -9,7 +9,7 @@ returns-then-not-has_proof c =
     let x = c.args in
     let t = c.set_out in
     let y = c.has_proof in
-    none_found x.height x.files.now x.room.now t.new.room y.new.room x.strip.now y.result t.ensures y.ensures c.refused.result (not-true y.result c.if-not-has_proof.true-raw) c.refused.ensures
+    none_found x.height x.files.now x.room.now t.new.room y.new.room x.strip.now y.result (t.ensures x.height x.files.now.goal) y.ensures c.refused.result (not-true y.result c.if-not-has_proof.true-raw) c.refused.ensures
 
 pub returns : goal.returns
 returns c =
@@ -17,4 +17,4 @@ returns c =
     let t = c.set_out in
     let y = c.has_proof in
     let w = c.write in
-    some-found x.height x.files.now x.room.now t.new.room y.new.room x.strip.now y.result t.ensures y.ensures w.new.strip w.result (not-false y.result c.if-not-has_proof.false-raw) w.ensures
+    some-found x.height x.files.now x.room.now t.new.room y.new.room x.strip.now y.result (t.ensures x.height x.files.now.goal) y.ensures w.new.strip w.result (not-false y.result c.if-not-has_proof.false-raw) w.ensures
