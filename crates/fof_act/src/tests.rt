@@ -12,7 +12,7 @@ fn start() -> Pen {
 }
 
 #[test]
-fn a_number_of_any_size_is_kept(rt: HostRuntime) {
+fn a_large_number_is_kept(rt: HostRuntime) {
     let mut stack = [Due::Nothing; 2];
     let d = Due::More {
         conj: true,
@@ -62,7 +62,7 @@ fn both_stacks_write_the_same(rt: HostRuntime) {
 
 // Seventeen thousand conjunctions, read to the end.
 #[test]
-fn a_chain_of_any_length_is_read(rt: HostRuntime) {
+fn a_long_chain_is_read(rt: HostRuntime) {
     let mut text = [b'p'; 34001];
     for k in 0..17000usize {
         text[2 * k + 1] = b'&';
