@@ -110,7 +110,7 @@ pub fn due_of(d: Due<u16>) -> Due
     }
 }
 
-// One due more, and the height then; where nothing is due, none. A due with a number of any size stays as it is.
+// One due more, and the height then; where nothing is due, none. The clause says it of a number that a text of 16,384 bytes can have; that a larger one stays as it is, a test of fof_act shows.
 // Kept: behind the dues there are free places, up to 98,400, which a slice that ends at the top doesn't reach.
 pub fn push(stack: &mut [Due], top: usize, d: Due) -> usize
     ensures { Pushes d stack.old stack.new top result }
